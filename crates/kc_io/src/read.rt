@@ -96,7 +96,7 @@ pub fn read_all<F: Files>(
     limit: u64,
 ) -> Result<Vec<u8>, ReadEnd>
     ensures whole { IfOk result (λ v. IsWhole (F.held files.old) name.now v.items) }
-    ensures within { IfOk result (λ v. vec_len v ≤ limit) }
+    ensures within { IfOk result (λ v. length v.items ≤ limit) }
     ensures fault { result ≡ Err ReadEnd.Fault → Rose (F.faults files.old name.now) (F.faults files.new name.now) }
     ensures too_long { result ≡ Err ReadEnd.TooLong → IsLonger (F.held files.old) name.now limit }
     ensures later { (n : List ℕ) → F.faults files.old n ≤ F.faults files.new n }

@@ -1,0 +1,5 @@
+pub mod LinesLemmas
+pub mod WordsLemmas
+pub mod PathLemmas
+pub mod SafeLemmas
+pub mod OutputLemmas

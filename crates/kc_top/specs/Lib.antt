@@ -1,0 +1,10 @@
+pub mod Status
+pub mod Words
+pub mod Request
+pub mod Lines
+pub mod FirstForm
+pub mod Form
+pub mod Straight
+pub mod Letters
+pub mod Machine
+pub mod Output

@@ -1,0 +1,159 @@
+//! All that the program does.
+
+ghost use Rattle.std.specs.Prelude.{◌≡◌, ◌≢◌, ◌≤◌, ℕ, List, IfOk, None};
+ghost use Rattle.std.specs.Io.KnownBytes.{Appends, Keeps};
+ghost use Rattle.kc_io.specs.Count.{Rose};
+ghost use Rattle.kc_io.specs.Sink.{Refuses};
+ghost use Rattle.kc_top.specs.Words.{request_of};
+ghost use Rattle.kc_top.specs.Form.{code_of};
+ghost use Rattle.kc_top.specs.Output.{IsCertDue, IsConfigDue, IsCheckDue, IsDue, IsUnread, Tells, AcceptsSafe};
+
+use crate::form::RawCode;
+use crate::letters::{judge, letter_fault};
+use crate::reading::{is_config, read_code};
+use crate::request::{CheckFiles, request_of};
+use crate::{Outcome, Status, Words, lines};
+use kc_io::{Files, ReadEnd, Sink, read_all, write_all};
+use kc_plain::NoMemory;
+use std::alloc::Global;
+
+/// The most bytes of an image.
+const IMAGE_LIMIT: u64 = 67_108_864;
+
+/// The most bytes of a configuration.
+const CONFIG_LIMIT: u64 = 1_048_576;
+
+/// The most bytes of a certificate.
+const CERT_LIMIT: u64 = 201_326_592;
+
+/// What comes of a file that wasn't read.
+fn unread(alloc: Global, name: &str, end: ReadEnd) -> Result<Outcome, NoMemory>
+    ensures { IfOk result (IsUnread name.now end) }
+{
+    match end {
+        ReadEnd::Fault => lines::read_fault(alloc, name),
+        ReadEnd::TooLong => lines::too_large(alloc, name),
+        ReadEnd::NoMemory => Err(NoMemory),
+    }
+}
+
+/// What comes of the certificate and its code.
+fn judge_cert<F: Files>(
+    alloc: Global,
+    files: &mut F,
+    cert: &str,
+    code: &RawCode<'_>,
+) -> Result<Outcome, NoMemory>
+    ensures due { IfOk result (IsCertDue (F.held files.old) (λ n. Rose (F.faults files.old n) (F.faults files.new n)) cert.now (code_of code.now)) }
+    ensures later { (n : List ℕ) → F.faults files.old n ≤ F.faults files.new n }
+    ensures held { F.held files.new ≡ F.held files.old }
+    ensures failing { F.failing files.new ≡ F.failing files.old }
+{
+    let letters = match read_all(alloc, files, cert, CERT_LIMIT) {
+        Ok(letters) => letters,
+        Err(end) => return unread(alloc, cert, end),
+    };
+    match letter_fault(&letters) {
+        Some(at) => lines::bad_cert(alloc, at),
+        None => lines::verdict(alloc, judge(code, &letters)),
+    }
+}
+
+/// What comes of the configuration, and then of the certificate.
+fn judge_config<F: Files>(
+    alloc: Global,
+    files: &mut F,
+    config: &str,
+    cert: &str,
+    code: &RawCode<'_>,
+) -> Result<Outcome, NoMemory>
+    ensures due { IfOk result (IsConfigDue (F.held files.old) (λ n. Rose (F.faults files.old n) (F.faults files.new n)) config.now cert.now (code_of code.now)) }
+    ensures later { (n : List ℕ) → F.faults files.old n ≤ F.faults files.new n }
+    ensures held { F.held files.new ≡ F.held files.old }
+    ensures failing { F.failing files.new ≡ F.failing files.old }
+{
+    let text = match read_all(alloc, files, config, CONFIG_LIMIT) {
+        Ok(text) => text,
+        Err(end) => return unread(alloc, config, end),
+    };
+    if !is_config(&text) {
+        return lines::bad_config(alloc);
+    }
+    judge_cert(alloc, files, cert, code)
+}
+
+/// What comes of `check`.
+fn judge_image<F: Files>(
+    alloc: Global,
+    files: &mut F,
+    image: &str,
+    config: &str,
+    cert: &str,
+) -> Result<Outcome, NoMemory>
+    ensures due { IfOk result (IsCheckDue (F.held files.old) (λ n. Rose (F.faults files.old n) (F.faults files.new n)) image.now config.now cert.now) }
+    ensures later { (n : List ℕ) → F.faults files.old n ≤ F.faults files.new n }
+    ensures held { F.held files.new ≡ F.held files.old }
+    ensures failing { F.failing files.new ≡ F.failing files.old }
+{
+    let file = match read_all(alloc, files, image, IMAGE_LIMIT) {
+        Ok(file) => file,
+        Err(end) => return unread(alloc, image, end),
+    };
+    match read_code(&file) {
+        Err(fault) => lines::bad_image(alloc, fault),
+        Ok(code) => judge_config(alloc, files, config, cert, &code),
+    }
+}
+
+/// Writes a text whole, and answers the status that goes with it or `WriteFault`.
+fn say<S: Sink>(out: &mut S, status: Status, text: &str) -> Status
+    ensures all { result ≢ Status.WriteFault → (result ≡ status) × Appends (S.written out.old) (S.written out.new) text.now }
+    ensures part { result ≡ Status.WriteFault → status ≢ Status.WriteFault → Refuses (S.faults out.old) (S.faults out.new)
+        (S.written out.old) (S.written out.new) (S.refused out.new) text.now }
+    ensures later { S.faults out.old ≤ S.faults out.new }
+    ensures plan { S.plan out.new ≡ S.plan out.old }
+{
+    match write_all(out, text.as_bytes()) {
+        Ok(()) => status,
+        Err(_) => Status::WriteFault,
+    }
+}
+
+/// Runs the command that the words name.
+///
+/// `check IMAGE CONFIG CERT` reads the three files in this order, decides, and writes one line. The
+/// answer is the line's status; `WriteFault` where the sink refused a part of the line, and nothing
+/// is written after that; `NoMemory` where there was no memory, and then nothing was written.
+pub fn run<F: Files, S: Sink>(alloc: Global, words: &Words, files: &mut F, out: &mut S) -> Status
+    // The status and the line are those of the outcome that is due.
+    ensures told { result ≢ Status.NoMemory → ((o : Outcome)
+        × IsDue (F.held files.old) (λ n. Rose (F.faults files.old n) (F.faults files.new n)) words.now o
+        × Tells o result (S.faults out.old) (S.faults out.new) (S.written out.old) (S.written out.new) (S.refused out.new)) }
+
+    // Words that are no command take no memory.
+    ensures usage { request_of words.now ≡ None → result ≢ Status.NoMemory }
+    ensures memory { result ≡ Status.NoMemory → Keeps (S.written out.old) (S.written out.new) }
+
+    // Accepted code stays safe.
+    ensures safe { result ≡ Status.Done → AcceptsSafe (F.held files.old) (request_of words.now) }
+
+    ensures files_later { (n : List ℕ) → F.faults files.old n ≤ F.faults files.new n }
+    ensures files_held { F.held files.new ≡ F.held files.old }
+    ensures files_failing { F.failing files.new ≡ F.failing files.old }
+    ensures out_later { S.faults out.old ≤ S.faults out.new }
+    ensures out_plan { S.plan out.new ≡ S.plan out.old }
+{
+    match request_of(words.as_slice()) {
+        None => say(out, Status::Usage, lines::USAGE),
+        Some(
+            CheckFiles {
+                image,
+                config,
+                cert,
+            },
+        ) => match judge_image(alloc, files, image, config, cert) {
+            Ok(outcome) => say(out, outcome.status, outcome.text.as_str()),
+            Err(NoMemory) => Status::NoMemory,
+        },
+    }
+}

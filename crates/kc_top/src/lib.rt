@@ -1,0 +1,18 @@
+//! The program as one call: from words and files to a status and what is written.
+#![tactic(auto)]
+
+mod command;
+mod form;
+mod letters;
+mod lines;
+mod outcome;
+mod reading;
+mod request;
+mod status;
+mod straight;
+mod words;
+
+pub use command::run;
+pub use outcome::Outcome;
+pub use status::Status;
+pub use words::Words;

@@ -1,0 +1,57 @@
+//! Reading the first form of an image.
+
+ghost use Rattle.std.specs.Prelude.{◌≡◌, ◌↔◌, IsTrue, []};
+ghost use Rattle.kc_top.specs.FirstForm.{magic_fault, first_image};
+ghost use Rattle.kc_top.specs.Form.{IsImage};
+
+use crate::form::{FormFault, FormKind, RawCode};
+use kc_words::le64;
+
+const MAGIC: [u8; 8] = *b"ENTRYRAW";
+
+/// Where the load address stands.
+const LOAD: usize = 8;
+
+/// Where the code begins.
+const CODE: usize = 16;
+
+/// The first byte that is there and differs from the magic.
+fn magic_fault(file: &[u8]) -> Option<usize>
+    ensures { result ≡ magic_fault file.now }
+{
+    file.iter()
+        .zip(MAGIC.iter())
+        .position(|(byte, magic)| byte != magic)
+}
+
+/// Reads a raw image: `ENTRYRAW`, the load address in 8 little-endian bytes, the code.
+pub fn read_code(file: &[u8]) -> Result<RawCode<'_>, FormFault>
+    ensures { IsImage (first_image file.now) result }
+{
+    if let Some(at) = magic_fault(file) {
+        let kind = FormKind::BadMagic;
+        return Err(FormFault { kind, at });
+    }
+    if file.len() <= CODE {
+        let kind = FormKind::HeaderOut;
+        let at = file.len();
+        return Err(FormFault { kind, at });
+    }
+    let Some(field) = file[LOAD..].first_chunk::<8>() else {
+        unreachable!()
+    };
+    let load = le64(field);
+    let bytes = &file[CODE..];
+    if load.checked_add(bytes.len() as u64).is_none() {
+        let kind = FormKind::SegmentOut;
+        return Err(FormFault { kind, at: LOAD });
+    }
+    Ok(RawCode { load, bytes })
+}
+
+/// Whether the configuration is in its first form, the empty file.
+pub fn is_config(text: &[u8]) -> bool
+    ensures { IsTrue result ↔ (text.now ≡ []) }
+{
+    text.is_empty()
+}

@@ -1,0 +1,71 @@
+//! What the words ask for.
+
+ghost use Rattle.std.specs.Prelude.{◌≡◌, map, string_bytes, option_map};
+ghost use Rattle.std.specs.List.{list_any};
+ghost use Rattle.kc_top.specs.Words.{is_faulty, check_of, mode_of, request_of};
+ghost use Rattle.kc_top.specs.Request.{names_of};
+
+/// The files of `check IMAGE CONFIG CERT`, by name.
+#[derive(Clone, Copy)]
+pub struct CheckFiles<'a> {
+    pub image: &'a str,
+    pub config: &'a str,
+    pub cert: &'a str,
+}
+
+/// Whether a word is neither a mode nor an operand: it is empty or begins with `-`.
+fn is_faulty(word: &str) -> bool
+    ensures { result ≡ is_faulty word.now }
+{
+    match word.as_bytes() {
+        [] => true,
+        [first, ..] => *first == b'-',
+    }
+}
+
+/// Whether one of the words is faulty.
+fn has_faulty(words: &[String]) -> bool
+    ensures { result ≡ list_any (λ s. is_faulty (string_bytes s)) words.now }
+{
+    words.iter().any(|word| is_faulty(word.as_str()))
+}
+
+/// The operands of `check`.
+fn check_of(operands: &[String]) -> Option<CheckFiles<'_>>
+    ensures { option_map names_of result ≡ check_of (map (λ s. string_bytes s) operands.now) }
+{
+    match operands {
+        [image, config, cert] => Some(CheckFiles {
+            image: image.as_str(),
+            config: config.as_str(),
+            cert: cert.as_str(),
+        }),
+        _ => None,
+    }
+}
+
+/// By the first word, the mode.
+fn mode_of(words: &[String]) -> Option<CheckFiles<'_>>
+    ensures { option_map names_of result ≡ mode_of (map (λ s. string_bytes s) words.now) }
+{
+    match words {
+        [] => None,
+        [mode, operands @ ..] => {
+            if mode.as_str() == "check" {
+                check_of(operands)
+            } else {
+                None
+            }
+        }
+    }
+}
+
+/// The request, where the words are one.
+pub fn request_of(words: &[String]) -> Option<CheckFiles<'_>>
+    ensures { option_map names_of result ≡ request_of (map (λ s. string_bytes s) words.now) }
+{
+    if has_faulty(words) {
+        return None;
+    }
+    mode_of(words)
+}

@@ -1,0 +1,40 @@
+//! The status that the program ends with.
+
+ghost use Rattle.std.specs.Prelude.{◌≡◌};
+ghost use Rattle.kc_top.specs.Status.{code_of};
+
+/// How a run of the program ends.
+#[derive(Clone, Copy, PartialEq, Eq, Debug)]
+pub enum Status {
+    /// The command did its work; of `check`: the certificate is accepted.
+    Done,
+    /// The conditions fail.
+    Refused,
+    /// The words are no command.
+    Usage,
+    /// The image isn't in its form.
+    BadImage,
+    /// The configuration isn't in its form.
+    BadConfig,
+    /// The certificate isn't in its form.
+    BadCert,
+    /// The trace isn't in its form.
+    BadTrace,
+    /// A file couldn't be read.
+    ReadFault,
+    /// The output couldn't be written.
+    WriteFault,
+    /// There was no memory.
+    NoMemory,
+    /// A file is larger than its limit.
+    TooLarge,
+}
+
+impl Status {
+    /// The exit code: 0 to 10, in the order of the variants.
+    pub fn code(self) -> u8
+        ensures { result ≡ code_of self }
+    {
+        self as u8
+    }
+}
