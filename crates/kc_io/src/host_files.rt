@@ -10,6 +10,7 @@ use std::{fs, io};
 
 /// The files of the system, by path. It tells nothing of what they hold; one count of faults serves
 /// all names. What it reads is trusted and tested, not proved.
+#[derive(Drop)]
 pub struct HostFiles<'a, R> {
     rt: &'a R,
     faults: u64,

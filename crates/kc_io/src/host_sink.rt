@@ -6,6 +6,7 @@ use crate::{Failed, Sink};
 
 /// Standard output. It tells nothing of what reached it. What it writes is trusted and tested, not
 /// proved.
+#[derive(Drop)]
 pub struct HostSink<'a, R> {
     rt: &'a R,
     faults: u64,

@@ -9,6 +9,8 @@ mod memory_files;
 mod memory_sink;
 mod read;
 mod sink;
+#[cfg(test)]
+mod tests;
 mod write;
 
 pub use files::{Failed, Files};

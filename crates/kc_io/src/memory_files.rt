@@ -1,7 +1,10 @@
 //! Files in memory, whose reads fail where it was planned.
 
-ghost use Rattle.std.specs.Prelude.{◌≡◌, ◌^◌, ◌<◌, ◌≤◌, min, List, ℕ, [], Some, length, take, drop, option_copied, option_map, position, bytes_eq, string_bytes};
-ghost use Rattle.kc_io.specs.Files.{ReadsFile};
+ghost use Rattle.std.specs.Prelude.{◌≡◌, ◌^◌, ◌+◌, ◌-◌, ◌<◌, ◌≤◌, ◌==◌, ◌||◌, min, List, ℕ, [], OnErr, Some, is_err, is_none, length, take, drop, option_copied, option_map, position, bytes_eq, string_bytes};
+ghost use Rattle.std.specs.Io.{ReadsAtMost};
+ghost use Rattle.std.specs.List.{list_any};
+ghost use Rattle.kc_io.specs.Count.{Rose};
+ghost use Rattle.kc_io.specs.Files.{ReadsFile, Reads};
 ghost use Rattle.kc_io.specs.Memory.{file_of, shared_count};
 
 use crate::{Failed, Files};
@@ -77,7 +80,19 @@ impl Files for MemFiles {
 
     ghost failing = { λ m. m.failing.items };
 
-    fn read_at(&mut self, name: &str, at: u64, buf: &mut [u8]) -> Result<usize, Failed> {
+    fn read_at(&mut self, name: &str, at: u64, buf: &mut [u8]) -> Result<usize, Failed>
+        ensures bound { ReadsAtMost result buf.new }
+        ensures bytes { Reads (Some (file_of self.old.names.items self.old.bytes.items)) name.now at result buf.new }
+        ensures cause { OnErr result (Rose (⟦<MemFiles as Files>⟧.faults self.old name.now) (⟦<MemFiles as Files>⟧.faults self.new name.now)) }
+        ensures later { (n : List ℕ) → ⟦<MemFiles as Files>⟧.faults self.old n ≤ ⟦<MemFiles as Files>⟧.faults self.new n }
+        ensures held { ⟦<MemFiles as Files>⟧.held self.new ≡ ⟦<MemFiles as Files>⟧.held self.old }
+        ensures failing { self.new.failing.items ≡ self.old.failing.items }
+
+        // Exactly the planned calls fail, and those for a name that isn't held.
+        ensures fails { is_err result ≡ (is_none (file_of self.old.names.items self.old.bytes.items name.now)
+            || list_any (λ n. n == self.old.next) self.old.failing.items) }
+        ensures next { self.new.next ≡ min (self.old.next + 1) (2 ^ 64 - 1) }
+    {
         let call = self.next;
         self.next = call.saturating_add(1);
         let Some(file) = find(&self.names, &self.bytes, name) else {

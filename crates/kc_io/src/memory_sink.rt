@@ -1,7 +1,10 @@
 //! A sink in memory, which refuses pieces where it was planned or where they pass its room.
 
-ghost use Rattle.std.specs.Prelude.{◌≡◌, ◌≢◌, ◌+◌, ◌<◌, ◌≤◌, [], Some, IfOk, vec_len, vec_capacity};
-ghost use Rattle.kc_io.specs.Sink.{Plan};
+ghost use Rattle.std.specs.Prelude.{◌≡◌, ◌≢◌, ◌+◌, ◌-◌, ◌^◌, ◌<◌, ◌≤◌, ◌==◌, ◌||◌, min, nat_lt, [], length, is_err, Some, IfOk, vec_len, vec_capacity};
+ghost use Rattle.std.specs.Io.{WritesAtMost};
+ghost use Rattle.std.specs.Io.KnownBytes.{WriteAppends};
+ghost use Rattle.std.specs.List.{list_any};
+ghost use Rattle.kc_io.specs.Sink.{Plan, CountsRefusal, refused_length};
 
 use crate::{Failed, Sink};
 use kc_plain::NoMemory;
@@ -21,7 +24,7 @@ pub struct MemSink {
     refused: usize,
     ghost has_room: { room ≤ vec_capacity bytes },
     ghost within: { vec_len bytes ≤ room },
-    ghost full: { failing.items ≡ [] → faults ≢ 0 → room < vec_len bytes + refused },
+    ghost full: { failing.items ≡ [] → faults ≢ 0 → room < length bytes.items + refused },
 }
 
 impl MemSink {
@@ -60,7 +63,19 @@ impl Sink for MemSink {
 
     ghost plan = { λ s. record { failing = s.failing.items; room = Some s.room } };
 
-    fn write(&mut self, piece: &[u8]) -> Result<usize, Failed> {
+    fn write(&mut self, piece: &[u8]) -> Result<usize, Failed>
+        ensures bound { WritesAtMost result piece.now }
+        ensures bytes { WriteAppends (Some self.old.bytes.items) (Some self.new.bytes.items) result piece.now }
+        ensures cause { CountsRefusal self.old.faults self.new.faults result piece.now }
+        ensures refused { self.new.refused ≡ refused_length self.old.refused result piece.now }
+        ensures plan { ⟦<MemSink as Sink>⟧.plan self.new ≡ ⟦<MemSink as Sink>⟧.plan self.old }
+
+        // Exactly the planned calls fail, and those whose piece would pass the room.
+        ensures fails { is_err result ≡ (list_any (λ n. n == self.old.next) self.old.failing.items
+            || nat_lt self.old.room (vec_len self.old.bytes + length piece.now)) }
+        ensures whole { IfOk result (λ n. n ≡ length piece.now) }
+        ensures next { self.new.next ≡ min (self.old.next + 1) (2 ^ 64 - 1) }
+    {
         let call = self.next;
         self.next = call.saturating_add(1);
         let fits = piece.len() <= self.room - self.bytes.len();

@@ -1,12 +1,15 @@
 -- What is due, from the parts of the work.
 use Rattle.std.proofs.Common.{◌≡◌, ◌≢◌, ℕ, ◌≤◌, List, [], length, refl, ap, sym, ◌∙◌, arith, inl, inr, subst}
-use Rattle.std.specs.Prelude.{Option, Some, None, Result, Ok, Err, IfOk}
+use Rattle.std.proofs.Common.{◌+◌, ◌<◌, ◌++◌, take, length-append, length-take}
+use Rattle.std.specs.Prelude.{Option, Some, None, Result, Ok, Err, IfOk, IsSome}
+use Rattle.kc_top.specs.Output.{usage, read_fault, too_large, HoldsFiles}
+use Rattle.kc_io.specs.Memory.{shared_count}
 use Rattle.kc_io.specs.Count.{Rose}
 use Rattle.kc_io.specs.Files.{Held, IsWhole, IsLonger}
 use Rattle.kc_io.specs.declared.read.ReadEnd.{ReadEnd}
 use Rattle.kc_io.specs.declared.read.ReadEnd.TheVariants.{Fault, TooLong, NoMemory as OutOfMemory}
 use Rattle.kc_top.specs.declared.status.Status.{Status}
-use Rattle.kc_top.specs.declared.status.Status.TheVariants.{Done, WriteFault, NoMemory}
+use Rattle.kc_top.specs.declared.status.Status.TheVariants.{Done, ReadFault, WriteFault, NoMemory}
 use Rattle.kc_top.specs.declared.form.FormKind.{FormKind}
 use Rattle.kc_top.specs.declared.form.FormFault.{FormFault}
 use Rattle.kc_top.specs.declared.form.RawCode.{RawCode}
@@ -42,8 +45,8 @@ OnFile-unread told rose limit name next OutOfMemory o fault too_long is = absurd
 
 -- counts that rose in a part of the call rose in the call
 OnFile-more : (told : Option Held) (rose rose' : List ℕ → Type 0) (limit : ℕ) (name : List ℕ) (next next' : List ℕ → Outcome → Type 0) →
-    ((n : List ℕ) → rose n → rose' n) → ((bytes : List ℕ) (o : Outcome) → next bytes o → next' bytes o) → (o : Outcome) → OnFile told rose limit name next o → OnFile told rose' limit name next' o
-OnFile-more told rose rose' limit name next next' r f o (inl fault) = inl (r name fault.0, fault.1)
+    (rose name → rose' name) → ((bytes : List ℕ) (o : Outcome) → next bytes o → next' bytes o) → (o : Outcome) → OnFile told rose limit name next o → OnFile told rose' limit name next' o
+OnFile-more told rose rose' limit name next next' r f o (inl fault) = inl (r fault.0, fault.1)
 OnFile-more told rose rose' limit name next next' r f o (inr (inl long)) = inr (inl long)
 OnFile-more told rose rose' limit name next next' r f o (inr (inr read)) = inr (inr (read.0, read.1, read.2, f read.0 o read.3))
 
@@ -51,17 +54,17 @@ OnForm-more : {A E : Type 0} (bad : E → Outcome) (r : Result A E) (next next' 
 OnForm-more bad (Ok a) next next' f o is = f a o is
 OnForm-more bad (Err e) next next' f o is = is
 
-IsCertDue-more : (told : Option Held) (rose rose' : List ℕ → Type 0) (cert : List ℕ) (code : Code) → ((n : List ℕ) → rose n → rose' n) → (o : Outcome) →
+IsCertDue-more : (told : Option Held) (rose rose' : List ℕ → Type 0) (cert : List ℕ) (code : Code) → (rose cert → rose' cert) → (o : Outcome) →
     IsCertDue told rose cert code o → IsCertDue told rose' cert code o
 IsCertDue-more told rose rose' cert code r o due =
     let next : List ℕ → Outcome → Type 0 = λ file. OnForm bad_cert (first_letters file) (λ letters o'. o' ≡ verdict (judged code letters)) in
     OnFile-more told rose rose' CERT_LIMIT cert next next r (λ bytes o is. is) o due
 
-IsConfigDue-more : (told : Option Held) (rose rose' : List ℕ → Type 0) (config cert : List ℕ) (code : Code) → ((n : List ℕ) → rose n → rose' n) → (o : Outcome) →
+IsConfigDue-more : (told : Option Held) (rose rose' : List ℕ → Type 0) (config cert : List ℕ) (code : Code) → (rose config → rose' config) → (rose cert → rose' cert) → (o : Outcome) →
     IsConfigDue told rose config cert code o → IsConfigDue told rose' config cert code o
-IsConfigDue-more told rose rose' config cert code r o due =
+IsConfigDue-more told rose rose' config cert code r r' o due =
     OnFile-more told rose rose' CONFIG_LIMIT config _ _ r
-    (λ file. OnForm-more bad_config (first_config file) (λ _. IsCertDue told rose cert code) (λ _. IsCertDue told rose' cert code) (λ _. IsCertDue-more told rose rose' cert code r)) o due
+    (λ file. OnForm-more bad_config (first_config file) (λ _. IsCertDue told rose cert code) (λ _. IsCertDue told rose' cert code) (λ _. IsCertDue-more told rose rose' cert code r')) o due
 
 first_config-empty : (told : Option Held) (rose : List ℕ → Type 0) (cert : List ℕ) (code : Code) (text : List ℕ) (o : Outcome) → text ≡ [] → IsCertDue told rose cert code o →
     OnForm bad_config (first_config text) (λ _. IsCertDue told rose cert code) o
@@ -71,7 +74,7 @@ first_config-empty told rose cert code text o empty due = rw empty due
 pub IsConfigDue-cert : (told told' : Option Held) (rose rose' : List ℕ → Type 0) (config cert : List ℕ) (code : Code) (text : List ℕ) → told' ≡ told → ((n : List ℕ) → rose' n → rose n) →
     IsWhole told config text → length text ≤ CONFIG_LIMIT → text ≡ [] → (o : Outcome) → IsCertDue told' rose' cert code o → IsConfigDue told rose config cert code o
 IsConfigDue-cert told told' rose rose' config cert code text same r whole within empty o due =
-    let due' = IsCertDue-more told rose' rose cert code r o (subst (λ t. IsCertDue t rose' cert code o) same due) in
+    let due' = IsCertDue-more told rose' rose cert code (r cert) o (subst (λ t. IsCertDue t rose' cert code o) same due) in
     inr (inr (text, whole, within, first_config-empty told rose cert code text o empty due'))
 
 OnForm-image : (r : Result Code (FormKind × ℕ)) (raw : RawCode) (next : Code → Outcome → Type 0) (o : Outcome) → IsImage r (Ok raw) → next (code_of raw) o → OnForm bad_image r next o
@@ -86,7 +89,7 @@ OnForm-bad_image (Err f) fault next o is due = due ∙ ap bad_image is
 pub IsCheckDue-config : (told told' : Option Held) (rose rose' : List ℕ → Type 0) (image config cert : List ℕ) (raw : RawCode) (file : List ℕ) → told' ≡ told → ((n : List ℕ) → rose' n → rose n) →
     IsWhole told image file → length file ≤ IMAGE_LIMIT → IsImage (first_image file) (Ok raw) → (o : Outcome) → IsConfigDue told' rose' config cert (code_of raw) o → IsCheckDue told rose image config cert o
 IsCheckDue-config told told' rose rose' image config cert raw file same r whole within is o due =
-    let due' = IsConfigDue-more told rose' rose config cert (code_of raw) r o (subst (λ t. IsConfigDue t rose' config cert (code_of raw) o) same due) in
+    let due' = IsConfigDue-more told rose' rose config cert (code_of raw) (r config) (r cert) o (subst (λ t. IsConfigDue t rose' config cert (code_of raw) o) same due) in
     inr (inr (file, whole, within, OnForm-image (first_image file) raw (IsConfigDue told rose config cert) o is due'))
 
 -- a file that is no image
@@ -100,46 +103,88 @@ pub first_image-is : (r : Result Code (FormKind × ℕ)) (raw : RawCode) → IsI
 first_image-is (Ok code) raw is = ap Ok (sym is)
 first_image-is (Err fault) raw is = absurd is
 
+-- what holds of each outcome that may be due
+record OfEach (P : Outcome → Type 0) (rose : List ℕ → Type 0) : Type 0 where
+  unread : (name : List ℕ) → rose name → P (read_fault name)
+  large : (name : List ℕ) → P (too_large name)
+  image : (fault : FormKind × ℕ) → P (bad_image fault)
+  config : (fault : Unit {0}) → P (bad_config fault)
+  cert : (at : ℕ) → P (bad_cert at)
+  judged : (r : Result ℕ Refusal) → P (verdict r)
+  words : P usage
+
+OnFile-each : (P : Outcome → Type 0) (told : Option Held) (rose : List ℕ → Type 0) (limit : ℕ) (name : List ℕ) (next : List ℕ → Outcome → Type 0) → OfEach P rose →
+    ((bytes : List ℕ) (o : Outcome) → next bytes o → P o) → (o : Outcome) → OnFile told rose limit name next o → P o
+OnFile-each P told rose limit name next each f o (inl fault) = subst P (sym fault.1) (each.unread name fault.0)
+OnFile-each P told rose limit name next each f o (inr (inl long)) = subst P (sym long.1) (each.large name)
+OnFile-each P told rose limit name next each f o (inr (inr read)) = f read.0 o read.3
+
+OnForm-each : {A E : Type 0} (P : Outcome → Type 0) (bad : E → Outcome) (r : Result A E) (next : A → Outcome → Type 0) → ((e : E) → P (bad e)) → ((a : A) (o : Outcome) → next a o → P o) →
+    (o : Outcome) → OnForm bad r next o → P o
+OnForm-each P bad (Ok a) next b f o is = f a o is
+OnForm-each P bad (Err e) next b f o is = subst P (sym is) (b e)
+
+IsCertDue-each : (P : Outcome → Type 0) (told : Option Held) (rose : List ℕ → Type 0) (cert : List ℕ) (code : Code) → OfEach P rose → (o : Outcome) → IsCertDue told rose cert code o → P o
+IsCertDue-each P told rose cert code each = OnFile-each P told rose CERT_LIMIT cert _ each
+    (λ file. OnForm-each P bad_cert (first_letters file) _ each.cert (λ letters o is. subst P (sym is) (each.judged (judged code letters))))
+
+IsConfigDue-each : (P : Outcome → Type 0) (told : Option Held) (rose : List ℕ → Type 0) (config cert : List ℕ) (code : Code) → OfEach P rose → (o : Outcome) → IsConfigDue told rose config cert code o → P o
+IsConfigDue-each P told rose config cert code each = OnFile-each P told rose CONFIG_LIMIT config _ each
+    (λ file. OnForm-each P bad_config (first_config file) _ each.config (λ empty. IsCertDue-each P told rose cert code each))
+
+IsRequestDue-each : (P : Outcome → Type 0) (told : Option Held) (rose : List ℕ → Type 0) → OfEach P rose → (request : Option Request) (o : Outcome) → IsRequestDue told rose request o → P o
+IsRequestDue-each P told rose each None o is = subst P (sym is) each.words
+IsRequestDue-each P told rose each (Some (Check image config cert)) o due = OnFile-each P told rose IMAGE_LIMIT image _ each
+    (λ file. OnForm-each P bad_image (first_image file) _ each.image (λ code. IsConfigDue-each P told rose config cert code each)) o due
+
 -- a status that a line goes with
 pub record IsSaid (status : Status) : Type 0 where
   pub written : status ≢ WriteFault
   pub remembered : status ≢ NoMemory
 
-said : (o : Outcome) (status : Status) → o.status ≡ status → IsSaid status → IsSaid o.status
-said o status is s = rw is s
+others-written : (rose : List ℕ → Type 0) → OfEach (λ (o : Outcome). o.status ≢ WriteFault) rose
+others-written rose = record {
+  unread = λ name rises no. cc;
+  large = λ name no. cc;
+  image = λ fault no. cc;
+  config = λ fault no. cc;
+  cert = λ at no. cc;
+  words = λ no. cc;
+  judged = λ r. elim r as (λ r. (verdict r).status ≢ WriteFault) [ Ok count ↦ λ no. cc | Err refusal ↦ elim refusal as (λ f. (verdict (Err f)).status ≢ WriteFault) [ Table c ↦ λ no. cc | Node c a ↦ λ no. cc ] ];
+}
 
-verdict-said : (r : Result ℕ Refusal) → IsSaid (verdict r).status
-verdict-said (Ok count) = record { written = λ no. cc; remembered = λ no. cc }
-verdict-said (Err (Table condition)) = record { written = λ no. cc; remembered = λ no. cc }
-verdict-said (Err (Node condition address)) = record { written = λ no. cc; remembered = λ no. cc }
-
-OnFile-said : (told : Option Held) (rose : List ℕ → Type 0) (limit : ℕ) (name : List ℕ) (next : List ℕ → Outcome → Type 0) → ((bytes : List ℕ) (o : Outcome) → next bytes o → IsSaid o.status) →
-    (o : Outcome) → OnFile told rose limit name next o → IsSaid o.status
-OnFile-said told rose limit name next f o (inl fault) = rw fault.1 (record { written = λ no. cc; remembered = λ no. cc })
-OnFile-said told rose limit name next f o (inr (inl long)) = rw long.1 (record { written = λ no. cc; remembered = λ no. cc })
-OnFile-said told rose limit name next f o (inr (inr read)) = f read.0 o read.3
-
-OnForm-said : {A E : Type 0} (bad : E → Outcome) (r : Result A E) (next : A → Outcome → Type 0) → ((e : E) → IsSaid (bad e).status) → ((a : A) (o : Outcome) → next a o → IsSaid o.status) →
-    (o : Outcome) → OnForm bad r next o → IsSaid o.status
-OnForm-said bad (Ok a) next b f o is = f a o is
-OnForm-said bad (Err e) next b f o is = rw is (b e)
-
-IsCertDue-said : (told : Option Held) (rose : List ℕ → Type 0) (cert : List ℕ) (code : Code) (o : Outcome) → IsCertDue told rose cert code o → IsSaid o.status
-IsCertDue-said told rose cert code = OnFile-said told rose CERT_LIMIT cert _
-    (λ file. OnForm-said bad_cert (first_letters file) _ (λ at. record { written = λ no. cc; remembered = λ no. cc }) (λ letters o is. rw is (verdict-said (judged code letters))))
-
-IsConfigDue-said : (told : Option Held) (rose : List ℕ → Type 0) (config cert : List ℕ) (code : Code) (o : Outcome) → IsConfigDue told rose config cert code o → IsSaid o.status
-IsConfigDue-said told rose config cert code = OnFile-said told rose CONFIG_LIMIT config _
-    (λ file. OnForm-said bad_config (first_config file) _ (λ e. record { written = λ no. cc; remembered = λ no. cc }) (λ empty. IsCertDue-said told rose cert code))
-
-IsCheckDue-said : (told : Option Held) (rose : List ℕ → Type 0) (image config cert : List ℕ) (o : Outcome) → IsCheckDue told rose image config cert o → IsSaid o.status
-IsCheckDue-said told rose image config cert = OnFile-said told rose IMAGE_LIMIT image _
-    (λ file. OnForm-said bad_image (first_image file) _ (λ e. record { written = λ no. cc; remembered = λ no. cc }) (IsConfigDue-said told rose config cert))
+others-remembered : (rose : List ℕ → Type 0) → OfEach (λ (o : Outcome). o.status ≢ NoMemory) rose
+others-remembered rose = record {
+  unread = λ name rises no. cc;
+  large = λ name no. cc;
+  image = λ fault no. cc;
+  config = λ fault no. cc;
+  cert = λ at no. cc;
+  words = λ no. cc;
+  judged = λ r. elim r as (λ r. (verdict r).status ≢ NoMemory) [ Ok count ↦ λ no. cc | Err refusal ↦ elim refusal as (λ f. (verdict (Err f)).status ≢ NoMemory) [ Table c ↦ λ no. cc | Node c a ↦ λ no. cc ] ];
+}
 
 -- no outcome is want of memory or a failed write
 pub IsRequestDue-said : (told : Option Held) (rose : List ℕ → Type 0) (request : Option Request) (o : Outcome) → IsRequestDue told rose request o → IsSaid o.status
-IsRequestDue-said told rose None o is = rw is (record { written = λ no. cc; remembered = λ no. cc })
-IsRequestDue-said told rose (Some (Check image config cert)) o due = IsCheckDue-said told rose image config cert o due
+IsRequestDue-said told rose request o due = record {
+  written = IsRequestDue-each (λ (o : Outcome). o.status ≢ WriteFault) told rose (others-written rose) request o due;
+  remembered = IsRequestDue-each (λ (o : Outcome). o.status ≢ NoMemory) told rose (others-remembered rose) request o due;
+}
+
+others-read : OfEach (λ (o : Outcome). o.status ≢ ReadFault) (λ _. ⊥)
+others-read = record {
+  unread = λ name rises. absurd rises;
+  large = λ name no. cc;
+  image = λ fault no. cc;
+  config = λ fault no. cc;
+  cert = λ at no. cc;
+  words = λ no. cc;
+  judged = λ r. elim r as (λ r. (verdict r).status ≢ ReadFault) [ Ok count ↦ λ no. cc | Err refusal ↦ elim refusal as (λ f. (verdict (Err f)).status ≢ ReadFault) [ Table c ↦ λ no. cc | Node c a ↦ λ no. cc ] ];
+}
+
+-- where no count rose no read has failed
+pub IsRequestDue-read : (told : Option Held) (request : Option Request) (o : Outcome) → IsRequestDue told (λ _. ⊥) request o → o.status ≢ ReadFault
+IsRequestDue-read told request o due = IsRequestDue-each (λ (o : Outcome). o.status ≢ ReadFault) told (λ _. ⊥) others-read request o due
 
 verdict-done : (r : Result ℕ Refusal) → (verdict r).status ≡ Done → (count : ℕ) × (r ≡ Ok count)
 verdict-done (Ok count) done = (count, refl)
@@ -209,3 +254,30 @@ IsCheckDue-unread told rose image config cert end fault too_long o is =
 pub Tells-said : (o : Outcome) (status : Status) (before now : ℕ) (old new : Option (List ℕ)) (refused : ℕ) → IsSaid o.status →
     (status ≢ WriteFault → (status ≡ o.status) × Appends old new o.text) → (status ≡ WriteFault → o.status ≢ WriteFault → Refuses before now old new refused o.text) → Tells o status before now old new refused
 Tells-said o status before now old new refused is all part = record { all = all; part = λ fault. part fault is.written }
+
+-- over held files whose counts stand still, what is due is what is due where no read fails
+pub IsRequestDue-quiet : (held : Held) (rose : List ℕ → Type 0) (request : Option Request) → HoldsFiles (Some held) request → ((n : List ℕ) → IsSome (held n) → rose n → ⊥) →
+    (o : Outcome) → IsRequestDue (Some held) rose request o → IsRequestDue (Some held) (λ _. ⊥) request o
+IsRequestDue-quiet held rose None holds quiet o due = due
+IsRequestDue-quiet held rose (Some (Check image config cert)) holds quiet o due =
+    OnFile-more (Some held) rose (λ _. ⊥) IMAGE_LIMIT image _ _ (quiet image holds.0)
+    (λ file. OnForm-more bad_image (first_image file) (IsConfigDue (Some held) rose config cert) (IsConfigDue (Some held) (λ _. ⊥) config cert)
+    (λ code. IsConfigDue-more (Some held) rose (λ _. ⊥) config cert code (quiet config holds.1) (quiet cert holds.2))) o due
+
+-- a held name's count is the first of the two
+pub shared_count-held : (o : Option (List ℕ)) (held others : ℕ) → IsSome o → shared_count o held others ≡ held
+shared_count-held (Some file) held others is = refl
+shared_count-held None held others is = absurd (cc)
+
+-- a count that stands at 0 hasn't risen
+pub Rose-none : (before now : ℕ) → now ≡ 0 → Rose before now → ⊥
+Rose-none before now zero rose = omega arith
+
+-- what was added to the bytes that were there, and what was refused, had no room
+pub Refuses-room : (old new text : List ℕ) (before now refused room : ℕ) → Refuses before now (Some old) (Some new) refused text → length old + length text ≤ room → room < length new + refused → ⊥
+Refuses-room old new text before now refused room refuses fits full =
+    let added : new ≡ old ++ take refuses.front.0 text = refuses.front.2 in
+    let count : length new ≡ length old + length (take refuses.front.0 text) = rw added (length-append old (take refuses.front.0 text)) in
+    let part : length (take refuses.front.0 text) ≤ refuses.front.0 = rw length-take (omega arith) in
+    let within = refuses.front.1 in
+    omega arith

@@ -1,5 +1,5 @@
 -- What the program answers and writes: one definition for all that it does, this project's own.
-use Rattle.std.specs.Prelude.{◌≡◌, ◌≢◌, ℕ, ◌≤◌, ◌⊎◌, List, length, Option, Some, None, Result, Ok, Err, ⊤}
+use Rattle.std.specs.Prelude.{◌≡◌, ◌≢◌, ℕ, ◌≤◌, ◌⊎◌, List, length, Option, Some, None, Result, Ok, Err, IsSome, ◌+◌, ⊤}
 use Rattle.std.specs.Io.KnownBytes.{Appends}
 use Rattle.kc_io.specs.Files.{Held, IsWhole, IsLonger}
 use Rattle.kc_io.specs.Sink.{Refuses}
@@ -107,3 +107,15 @@ IsSafeImage (Some held) image = (file : List ℕ) × (held image ≡ Some file) 
 abbrev pub AcceptsSafe : Option Held → Option Request → Type 0
 AcceptsSafe told None = ⊤
 AcceptsSafe told (Some (Check image config cert)) = IsSafeImage told image
+
+-- the files hold each name of the request
+abbrev pub HoldsFiles : Option Held → Option Request → Type 0
+HoldsFiles None request = ⊥
+HoldsFiles (Some held) None = ⊤
+HoldsFiles (Some held) (Some (Check image config cert)) = IsSome (held image) × IsSome (held config) × IsSome (held cert)
+
+-- what is due where no read fails has room behind the bytes that are written already
+abbrev pub HasRoom : Option Held → List (List ℕ) → Option (List ℕ) → Option ℕ → Type 0
+HasRoom told words (Some written) (Some room) = (o : Outcome) → IsDue told (λ _. ⊥) words o → length written + length o.text ≤ room
+HasRoom told words None room = ⊥
+HasRoom told words (Some written) None = ⊤

@@ -5,6 +5,7 @@ mod command;
 mod form;
 mod letters;
 mod lines;
+mod memory;
 mod outcome;
 mod reading;
 mod request;
@@ -13,6 +14,7 @@ mod straight;
 mod words;
 
 pub use command::run;
+pub use memory::run_in_memory;
 pub use outcome::Outcome;
 pub use status::Status;
 pub use words::Words;

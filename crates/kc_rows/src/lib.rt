@@ -1,0 +1,7 @@
+//! Tests that cross crates, as tables of cases: the whole program over files and a sink in memory.
+#![tactic(auto)]
+
+#[cfg(test)]
+mod check;
+#[cfg(test)]
+mod runner;
