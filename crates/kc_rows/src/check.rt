@@ -1,6 +1,8 @@
 //! `check` on a raw image with a certificate of letters.
 
-use crate::runner::{Held, ended};
+use crate::runner::{Held, ended, ended_over};
+use kc_io::MemFiles;
+use std::alloc::{AllocError, Global};
 use std::test::Fail;
 
 const USAGE: &str =
@@ -202,25 +204,26 @@ fn faults_of_reading_and_writing_have_their_place(rt: HostRuntime) -> Result<(),
     Ok(())
 }
 
+/// Files that each have this many bytes.
+fn large_files(alloc: Global, names: &[&str], len: usize) -> Result<MemFiles, AllocError> {
+    let mut all = Vec::new(alloc);
+    let mut bytes = Vec::new(alloc);
+    for name in names {
+        all.push(String::from_str(alloc, name)?)?;
+        bytes.push(vec![in alloc; b'u'; len]?)?;
+    }
+    Ok(MemFiles::new(all, bytes, Vec::new(alloc)))
+}
+
 #[test]
-fn files_over_their_limits_are_too_large(rt: HostRuntime) -> Result<(), Fail> {
-    let large = vec![in rt.alloc(); b'u'; 67_108_865]?;
-    let cases: [(&[&str], u8, &str); 2] = [
-        (&["check", "large", "c", "l"], 10, "too large large\n"),
-        (&["check", "i", "large", "l"], 10, "too large large\n"),
-    ];
-    for (words, code, line) in cases {
-        let held = [
-            Held {
-                name: "i",
-                bytes: ACCEPTED,
-            },
-            Held {
-                name: "large",
-                bytes: &large,
-            },
-        ];
-        let end = ended(rt.alloc(), words, &held, &[], &[]).expect(&rt, "memory");
+fn a_file_over_its_limit_by_one_byte_is_too_large(rt: HostRuntime) -> Result<(), Fail> {
+    let words = ["check", "i", "c", "l"];
+    for (len, code, line) in [
+        (67_108_864, 3, "bad image 1 BadMagic at 0\n"),
+        (67_108_865, 10, "too large i\n"),
+    ] {
+        let mut files = large_files(rt.alloc(), &["i"], len)?;
+        let end = ended_over(rt.alloc(), &words, &mut files, &[]).expect(&rt, "memory");
         assert!(rt; end.code == code, "{line}");
         assert!(rt; end.written.as_slice() == line.as_bytes(), "{line}");
     }

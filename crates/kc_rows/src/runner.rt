@@ -14,7 +14,7 @@ pub struct Held<'a> {
 
 /// The exit code of a run and what it wrote.
 #[derive(Drop)]
-pub struct Ended {
+pub struct Ending {
     pub code: u8,
     pub written: Vec<u8>,
 }
@@ -47,12 +47,22 @@ pub fn ended(
     held: &[Held<'_>],
     reads: &[u64],
     writes: &[u64],
-) -> Result<Ended, NoMemory> {
-    let words = words_of(alloc, words)?;
+) -> Result<Ending, NoMemory> {
     let mut files = files_of(alloc, held, reads)?;
+    ended_over(alloc, words, &mut files, writes)
+}
+
+/// The same over files that are made already.
+pub fn ended_over(
+    alloc: Global,
+    words: &[&str],
+    files: &mut MemFiles,
+    writes: &[u64],
+) -> Result<Ending, NoMemory> {
+    let words = words_of(alloc, words)?;
     let mut out = MemSink::new(alloc, ROOM, Vec::from_slice(alloc, writes)?)?;
-    let status = run_in_memory(alloc, &words, &mut files, &mut out);
-    Ok(Ended {
+    let status = run_in_memory(alloc, &words, files, &mut out);
+    Ok(Ending {
         code: status.code(),
         written: Vec::from_slice(alloc, out.bytes())?,
     })
