@@ -1,5 +1,5 @@
 -- The flags of sums and differences, as they are computed, at any width up to 64 bits.
-use Rattle.std.proofs.Common.{◌≡◌, ℕ, ◌+◌, ◌-◌, ◌*◌, ◌/◌, ◌%◌, ◌^◌, ◌<◌, ◌≤◌, min, Bool, true, false, not, ◌&&◌, ◌==◌, leb, ltb, bit_and, bit_xor, arith, refl, sym, ap, ◌∙◌, subst, inl, inr, lit≤}
+use Rattle.std.proofs.Common.{◌≡◌, ℕ, ◌+◌, ◌-◌, ◌*◌, ◌/◌, ◌%◌, ◌^◌, ◌<◌, ◌≤◌, min, not, ◌&&◌, ◌==◌, leb, ltb, bit_and, bit_xor, arith, sym, ap, ◌∙◌, subst, inl, inr, lit≤}
 use Rattle.std.proofs.lemmas.Nat.{and_mask, shr_split, pow_pos, mod_below, pow-add, div_below}
 use Rattle.std.proofs.lemmas.Nat.Bits.{bit_at_cat_low, bit_at-lt, bit_at_and, bit_at_xor}
 use Rattle.std.proofs.lemmas.Bool.{cases_lt, lt-ltb, le-ltb, le-leb, lt-leb}
@@ -32,21 +32,21 @@ result_flags-mod m n x low high =
 wraps : (m r s t : ℕ) → r < m → s < m → 0 < m → t ≡ (r + s) % m → ltb t r ≡ leb m (r + s)
 wraps m r s t hr hs pos e =
     elim (cases_lt (r + s) m) [
-      inl h ↦
-        let t_is : t ≡ r + s = e ∙ mod-eq_of_lt h in
-        le-ltb t r (omega arith) ∙ sym (lt-leb m (r + s) h)
-    | inr h ↦
-        let back : (r + s - m) + m ≡ r + s = omega arith in
-        let small : r + s - m < m = omega arith in
-        let t_is : t ≡ r + s - m = e ∙ ap (λ (x : ℕ). x % m) (sym back) ∙ add-mod_right (r + s - m) m ∙ mod-eq_of_lt small in
-        lt-ltb t r (omega arith) ∙ sym (le-leb m (r + s) h)
+      | inl h ↦
+          let t_is : t ≡ r + s = e ∙ mod-eq_of_lt h in
+          le-ltb t r (omega arith) ∙ sym (lt-leb m (r + s) h)
+      | inr h ↦
+          let back : (r + s - m) + m ≡ r + s = omega arith in
+          let small : r + s - m < m = omega arith in
+          let t_is : t ≡ r + s - m = e ∙ ap (λ (x : ℕ). x % m) (sym back) ∙ add-mod_right (r + s - m) m ∙ mod-eq_of_lt small in
+          lt-ltb t r (omega arith) ∙ sym (le-leb m (r + s) h)
     ]
 
 -- a carry out of n bits shows in the sum: its low bits are less than those of an operand
 pub carries-below : (m n a b : ℕ) → n ≤ m → ltb ((a + b) % 2 ^ m % 2 ^ n) (a % 2 ^ n) ≡ carries n a b
 carries-below m n a b h =
     let cut : (a + b) % 2 ^ m % 2 ^ n ≡ (a % 2 ^ n + b % 2 ^ n) % 2 ^ n =
-        mod_of_mod m n (a + b) h ∙ sym (mod-add-mod a (2 ^ n) b) ∙ sym (add-mod-mod (a % 2 ^ n) b (2 ^ n)) in
+    mod_of_mod m n (a + b) h ∙ sym (mod-add-mod a (2 ^ n) b) ∙ sym (add-mod-mod (a % 2 ^ n) b (2 ^ n)) in
     wraps (2 ^ n) (a % 2 ^ n) (b % 2 ^ n) _ (mod_below a (2 ^ n) (pow_pos n)) (mod_below b (2 ^ n) (pow_pos n)) (pow_pos n) cut
 
 both_differ : (x y z : ℕ) → x < 2 → y < 2 → z < 2 → (min ((x + z) % 2) ((y + z) % 2) == 1) ≡ ((x == y) && not (z == x))
@@ -62,8 +62,8 @@ overflows-mask m n a b pos h =
     let k : ℕ = n - 1 in
     let top : bit_at r k ≡ bit_at (a + b) k = bit_at-mod (a + b) m k (omega arith) in
     let masked : bit_at (bit_and (bit_xor a r) (bit_xor b r)) k ≡ min ((bit_at a k + bit_at r k) % 2) ((bit_at b k + bit_at r k) % 2) =
-        bit_at_and (bit_xor a r) (bit_xor b r) k ∙ ap (λ (x : ℕ). min x (bit_at (bit_xor b r) k)) (bit_at_xor a r k)
-        ∙ ap (λ (x : ℕ). min ((bit_at a k + bit_at r k) % 2) x) (bit_at_xor b r k) in
+    bit_at_and (bit_xor a r) (bit_xor b r) k ∙ ap (λ (x : ℕ). min x (bit_at (bit_xor b r) k)) (bit_at_xor a r k)
+    ∙ ap (λ (x : ℕ). min ((bit_at a k + bit_at r k) % 2) x) (bit_at_xor b r k) in
     ap (λ (x : ℕ). x == 1) masked ∙ both_differ (bit_at a k) (bit_at b k) (bit_at r k) (bit_at-lt a k) (bit_at-lt b k) (bit_at-lt r k)
     ∙ ap (λ (x : ℕ). (bit_at a k == bit_at b k) && not (x == bit_at a k)) top
 
@@ -86,7 +86,7 @@ difference-mod m n a b h fits =
     let parts_b : b / 2 ^ n * 2 ^ n + b % 2 ^ n ≡ b = shr_split b n in
     let below : b % 2 ^ n < 2 ^ n = mod_below b (2 ^ n) (pow_pos n) in
     let regrouped : a + (2 ^ m - b) ≡ (a / 2 ^ n + (2 ^ (m - n) - b / 2 ^ n - 1)) * 2 ^ n + (a % 2 ^ n + (2 ^ n - b % 2 ^ n)) =
-        regroup (a / 2 ^ n) (a % 2 ^ n) (b / 2 ^ n) (b % 2 ^ n) (2 ^ (m - n)) (2 ^ n) a b (2 ^ m) parts_a parts_b whole quotient below in
+    regroup (a / 2 ^ n) (a % 2 ^ n) (b / 2 ^ n) (b % 2 ^ n) (2 ^ (m - n)) (2 ^ n) a b (2 ^ m) parts_a parts_b whole quotient below in
     mod_of_mod m n (a + (2 ^ m - b)) h ∙ ap (λ (x : ℕ). x % 2 ^ n) regrouped
     ∙ mul-add-mod_self_right (a / 2 ^ n + (2 ^ (m - n) - b / 2 ^ n - 1)) (2 ^ n) (a % 2 ^ n + (2 ^ n - b % 2 ^ n))
 
@@ -97,10 +97,10 @@ overflows-mask_minus m n a b pos h fits =
     let r : ℕ = (a + (2 ^ m - b)) % 2 ^ m in
     let k : ℕ = n - 1 in
     let top : bit_at r k ≡ bit_at (difference n a b) k =
-        sym (bit_at-mod r n k (omega arith)) ∙ ap (λ (x : ℕ). bit_at x k) (difference-mod m n a b h fits) in
+    sym (bit_at-mod r n k (omega arith)) ∙ ap (λ (x : ℕ). bit_at x k) (difference-mod m n a b h fits) in
     let masked : bit_at (bit_and (bit_xor a b) (bit_xor a r)) k ≡ min ((bit_at a k + bit_at b k) % 2) ((bit_at a k + bit_at r k) % 2) =
-        bit_at_and (bit_xor a b) (bit_xor a r) k ∙ ap (λ (x : ℕ). min x (bit_at (bit_xor a r) k)) (bit_at_xor a b k)
-        ∙ ap (λ (x : ℕ). min ((bit_at a k + bit_at b k) % 2) x) (bit_at_xor a r k) in
+    bit_at_and (bit_xor a b) (bit_xor a r) k ∙ ap (λ (x : ℕ). min x (bit_at (bit_xor a r) k)) (bit_at_xor a b k)
+    ∙ ap (λ (x : ℕ). min ((bit_at a k + bit_at b k) % 2) x) (bit_at_xor a r k) in
     ap (λ (x : ℕ). x == 1) masked ∙ both_differ_minus (bit_at a k) (bit_at b k) (bit_at r k) (bit_at-lt a k) (bit_at-lt b k) (bit_at-lt r k)
     ∙ ap (λ (x : ℕ). (bit_at b k == x) && not (bit_at a k == bit_at b k)) top
 

@@ -6,10 +6,15 @@ ghost use Rattle.kc_words.specs.Flags.{bits_of, result_flags, sum_flags, differe
 use crate::width::Width;
 
 const CF: u64 = 1 << 0;
+
 const PF: u64 = 1 << 2;
+
 const AF: u64 = 1 << 4;
+
 const ZF: u64 = 1 << 6;
+
 const SF: u64 = 1 << 7;
+
 const OF: u64 = 1 << 11;
 
 fn flag_if(set: bool, flag: u64) -> u64

@@ -1,10 +1,12 @@
-//! Machine words: operand widths, address spans and little-endian numbers.
+//! Machine words: operand widths, address spans, little-endian numbers and status flags.
 #![tactic(auto)]
 
 mod flags;
 mod little_endian;
 mod sign;
 mod span;
+#[cfg(test)]
+mod tests;
 mod width;
 
 pub use flags::{add_flags, logic_flags, sub_flags};
