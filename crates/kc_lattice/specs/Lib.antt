@@ -1,0 +1,4 @@
+pub mod Laws
+pub mod Pair
+pub mod Rows
+pub mod PairLaws
