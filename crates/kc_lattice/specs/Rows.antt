@@ -1,13 +1,6 @@
 -- Lists of abstract values, place by place, this project's own.
 use Rattle.std.specs.Prelude.{Bool, true, false, ◌&&◌, List, [], ◌∷◌}
 
-module _ {A B : Type 0} where
-  -- two lists of one length with the relation at each place
-  abbrev pub AllTogether : (A → B → Type 0) → List A → List B → Type 0
-  AllTogether R [] [] = Unit {0}
-  AllTogether R (x ∷ xs) (y ∷ ys) = R x y × AllTogether R xs ys
-  AllTogether R _ _ = ⊥
-
 module _ {A : Type 0} where
   -- lists of one length, in order at each place
   abbrev pub rows_below : (A → A → Bool) → List A → List A → Bool

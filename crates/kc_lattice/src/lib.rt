@@ -3,6 +3,8 @@
 
 mod both;
 mod domain;
+mod list;
 
 pub use both::Both;
 pub use domain::{Domain, Meaning};
+pub use list::{is_top_each, join_all, join_each, leq_each, set_top_each, stands_each, tell_each};
