@@ -1,5 +1,5 @@
 -- One turn of a loop over lists, place by place, and the bound that a join of many keeps.
-use Rattle.std.proofs.Common.{◌≡◌, ℕ, suc, ◌+◌, ◌<◌, ◌≤◌, Bool, true, false, ◌&&◌, List, [], ◌∷◌, ◌++◌, length, get_or, take, drop, All, sym, ap, ◌∙◌, refl, add-one, drop-cons}
+use Rattle.std.proofs.Common.{◌≡◌, ℕ, suc, ◌+◌, ◌<◌, Bool, true, List, [], ◌∷◌, ◌++◌, length, get_or, take, drop, All, sym, ap, ◌∙◌, refl, add-one, drop-cons}
 use Rattle.std.proofs.lemmas.List.{take_more}
 use Rattle.std.proofs.lemmas.List.Elements.{All-nil, All-cons, All-head, All-tail, All-push}
 use Rattle.std.specs.List.{AllZip}
@@ -31,7 +31,7 @@ pub record IsBound {A : Type 0} (valid : A → Type 0) (below : A → A → Bool
   pub bound : IsLeastUpperBound valid below (first ∷ xs) z
 
 module _ {A : Type 0} {valid : A → Type 0} {alike : A → A → Type 0} {below : A → A → Bool} {joined : A → A → A} {top_of : A → A} {rank : A → ℕ}
-  (m : Laws valid alike below joined top_of rank) where
+    (m : Laws valid alike below joined top_of rank) where
   abbrev IsUnder : A → A → Type 0
   IsUnder z x = below x z ≡ true
 
@@ -76,7 +76,7 @@ module _ {A : Type 0} {valid : A → Type 0} {alike : A → A → Type 0} {below
           valid_bound = hj;
           above = All-push (IsUnder (joined z x)) (first ∷ xs) x old (m.join_right z x hz hx shape);
           least = λ w hw k.
-            let r = front (IsUnder w) (first ∷ xs) x k in
-            m.join_least z x w hz hx hw shape (b.bound.least w hw r.0) r.1;
+              let r = front (IsUnder w) (first ∷ xs) x k in
+              m.join_least z x w hz hx hw shape (b.bound.least w hw r.0) r.1;
         };
       }

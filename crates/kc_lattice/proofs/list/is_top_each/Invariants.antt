@@ -1,4 +1,4 @@
-use Rattle.std.proofs.Common.{◌≡◌, ◌↔◌, ◌≤◌, ◌++◌, ◌∷◌, length, map, take, drop, fold, All}
+use Rattle.std.proofs.Common.{◌≡◌, ◌↔◌, map, drop}
 use Rattle.kc_lattice.proofs.list.is_top_each.Given as goal
 
 -- what is left decides

@@ -1,6 +1,6 @@
-use Rattle.std.proofs.Common.{ℕ, List, length, get_or, take, fold, ◌+◌, ◌++◌, ◌∷◌, [], ◌≡◌, sym, ap, subst, ◌∙◌}
+use Rattle.std.proofs.Common.{take, ◌+◌, ◌++◌, ◌∷◌, [], ◌≡◌, sym, ap, subst, ◌∙◌}
 use Rattle.std.proofs.lemmas.List.Sums.{fold-append}
-use Rattle.kc_lattice.proofs.ListLemmas.{take_read, bound_alike, IsBound-more, IsBound}
+use Rattle.kc_lattice.proofs.ListLemmas.{take_read, bound_alike, IsBound-more}
 use Rattle.kc_lattice.proofs.list.join_all.Goals as goal
 
 -- and so alike what was joined so far
@@ -17,7 +17,7 @@ loop-item-preserved g c =
     let x = c.item-item.result in
     let xs = take c.loop-item.item-index c.args.items.now in
     let now : take (c.loop-item.item-index + 1) c.args.items.now ≡ xs ++ x ∷ [] =
-        take_read c.args.items.now c.loop-item.item-index x c.loop-item-test.true c.item-item.is in
+    take_read c.args.items.now c.loop-item.item-index x c.loop-item-test.true c.item-item.is in
     let alike = subst (m.alike first) (sym c.item-item.is) (c.requires c.loop-item.item-index x c.loop-item-test.true) in
     let more = IsBound-more g.met.D.Domain.laws first x c.loop-item.total xs c.tell-in-loop-item.ensures alike c.loop-item.invariant.1 in
     rw (now, c.join.ensures) (ap (λ (z : _). m.joined z x) c.loop-item.invariant.0 ∙ sym (fold-append m.joined first xs (x ∷ [])), more)

@@ -1,4 +1,4 @@
-use Rattle.std.proofs.Common.{◌≡◌, ◌↔◌, ◌≤◌, ◌++◌, ◌∷◌, length, map, take, drop, fold, All}
+use Rattle.std.proofs.Common.{◌≡◌, take, fold}
 use Rattle.kc_lattice.proofs.ListLemmas.{IsBound}
 use Rattle.kc_lattice.proofs.list.join_all.Given as goal
 

@@ -1,4 +1,4 @@
-use Rattle.std.proofs.Common.{◌≡◌, ◌↔◌, ◌≤◌, ◌++◌, ◌∷◌, length, map, take, drop, fold, All}
+use Rattle.std.proofs.Common.{◌≡◌, ◌++◌, length, take, drop}
 use Rattle.std.specs.List.{AllZip}
 use Rattle.kc_lattice.specs.Rows.{rows_joined}
 use Rattle.kc_lattice.proofs.list.join_each.Given as goal

@@ -1,4 +1,4 @@
-use Rattle.std.proofs.Common.{◌≡◌, ◌↔◌, ◌≤◌, ◌++◌, ◌∷◌, length, map, take, drop, fold, All}
+use Rattle.std.proofs.Common.{◌≡◌, drop}
 use Rattle.kc_lattice.specs.Rows.{rows_below}
 use Rattle.kc_lattice.proofs.list.leq_each.Given as goal
 

@@ -1,4 +1,4 @@
-use Rattle.std.proofs.Common.{◌≡◌, ◌↔◌, ◌≤◌, ◌++◌, ◌∷◌, length, map, take, drop, fold, All}
+use Rattle.std.proofs.Common.{◌≡◌, ◌++◌, map, take, drop}
 use Rattle.kc_lattice.proofs.list.set_top_each.Given as goal
 
 -- what is done and the tops of the rest are all tops

@@ -1,4 +1,3 @@
-use Rattle.std.proofs.Common.{false, true}
 use Rattle.std.proofs.lemmas.Bool.{false≢true}
 use Rattle.kc_lattice.proofs.ListLemmas.{length-AllZip}
 use Rattle.kc_lattice.proofs.list.stands_each.Goals as goal

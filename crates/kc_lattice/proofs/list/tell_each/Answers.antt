@@ -1,4 +1,4 @@
-use Rattle.std.proofs.Common.{All, length, get_or, take, sym, subst, arith}
+use Rattle.std.proofs.Common.{take, sym}
 use Rattle.std.proofs.lemmas.List.{take_all}
 use Rattle.std.proofs.lemmas.List.Elements.{All-push, All-same}
 use Rattle.kc_lattice.proofs.ListLemmas.{take_read}

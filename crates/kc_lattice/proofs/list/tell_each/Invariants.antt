@@ -1,4 +1,4 @@
-use Rattle.std.proofs.Common.{◌≡◌, ◌↔◌, ◌≤◌, ◌++◌, ◌∷◌, length, map, take, drop, fold, All}
+use Rattle.std.proofs.Common.{take, All}
 use Rattle.kc_lattice.proofs.list.tell_each.Given as goal
 
 abbrev pub invariant-loop-item : goal.invariant-loop-item
