@@ -1,0 +1,5 @@
+pub mod Carries
+pub mod Masks
+pub mod Operations
+pub mod Sums
+pub mod Whole

@@ -1,0 +1,190 @@
+//! Known bits of 64-bit words, this project's own: the tristate numbers of Linux's BPF verifier.
+
+ghost use Rattle.std.specs.Prelude.{◌≡◌, ℕ, ◌+◌, ◌-◌, ◌%◌, ◌^◌, ◌<◌, bit_and, bit_or, bit_xor, IfSome, IsTrue, ◌↔◌};
+ghost use Rattle.kc_bits.specs.Bits.{IsValid, StandsFor, is_below, bits_joined, nothing_known, bits_rank, all_of, unknown, bits_single, bits_and, bits_or, bits_xor, known_but, bits_add, bits_sub, IsSound, IsMonotoneAt, word};
+ghost use Rattle.kc_bits.specs.BitsLaws.{bits_alike, bits_laws, bits_grow};
+
+use std::marker::Model;
+
+use kc_lattice::{Domain, Meaning};
+
+/// What is known of the bits of a 64-bit word: those in `zeros` are 0, those in `ones` are 1, and
+/// no bit is in both. It stands for each word that has these bits.
+#[derive(Clone, Copy, PartialEq, Eq, Debug)]
+pub struct Bits {
+    pub zeros: u64,
+    pub ones: u64,
+}
+
+impl Model for Bits {
+    ghost use Rattle.std.specs.Prelude.{◌≡◌, bit_and};
+    ghost use Rattle.kc_bits.specs.KnownBits.{KnownBits};
+
+    ghost Value = { KnownBits };
+
+    ghost view = { λ b. record { zeros = b.zeros; ones = b.ones } };
+
+    ghost invariant = { λ b. bit_and b.zeros b.ones ≡ 0 };
+
+    ghost inverse = { λ b. record { zeros = b.zeros; ones = b.ones } };
+}
+
+impl Domain for Bits {
+    ghost valid = { IsValid };
+
+    ghost alike = { bits_alike };
+
+    ghost below = { is_below };
+
+    ghost joined = { bits_joined };
+
+    ghost top_of = { λ x. nothing_known };
+
+    ghost rank = { bits_rank };
+
+    ghost laws = { bits_laws };
+
+    fn leq(&self, other: &Bits) -> bool {
+        self.zeros & other.zeros == other.zeros && self.ones & other.ones == other.ones
+    }
+
+    fn join(&mut self, other: &Bits) {
+        self.zeros &= other.zeros;
+        self.ones &= other.ones;
+    }
+
+    fn is_top(&self) -> bool {
+        self.zeros == 0 && self.ones == 0
+    }
+
+    fn set_top(&mut self) {
+        self.zeros = 0;
+        self.ones = 0;
+    }
+
+    fn tell(&self) {
+        let _zeros = self.zeros;
+        let _ones = self.ones;
+    }
+}
+
+impl Meaning for Bits {
+    type Env = ();
+
+    type Conc = u64;
+
+    ghost holds = { λ b e n. StandsFor b n };
+
+    ghost grows = { λ x y e n hx hy h. bits_grow x y n h };
+
+    fn stands(&self, _env: &(), c: &u64) -> bool {
+        *c & self.zeros == 0 && *c & self.ones == self.ones
+    }
+}
+
+impl Bits {
+    /// All bits of `v`.
+    pub fn of(v: u64) -> Bits
+        ensures value { result ≡ all_of v }
+        ensures only { (n : ℕ) → n < 2 ^ 64 → StandsFor result n → n ≡ v }
+    {
+        Bits {
+            zeros: !v,
+            ones: v,
+        }
+    }
+
+    /// The number, where all bits are known.
+    pub fn single(&self) -> Option<u64>
+        ensures value { result ≡ bits_single self.now }
+        ensures only { IfSome result (λ v. StandsFor self.now v × ((n : ℕ) → n < 2 ^ 64 → StandsFor self.now n → n ≡ v)) }
+    {
+        self.tell();
+        if self.unknown() == 0 {
+            Some(self.ones)
+        } else {
+            None
+        }
+    }
+
+    /// What is known of `x & y`, where `self` stands for x and `other` for y.
+    pub fn and(&self, other: &Bits) -> Bits
+        ensures value { result ≡ bits_and self.now other.now }
+        ensures sound { IsSound bit_and self.now other.now result }
+        ensures monotone { IsMonotoneAt bits_and self.now other.now }
+    {
+        Bits {
+            zeros: self.zeros | other.zeros,
+            ones: self.ones & other.ones,
+        }
+    }
+
+    /// What is known of `x | y`.
+    pub fn or(&self, other: &Bits) -> Bits
+        ensures value { result ≡ bits_or self.now other.now }
+        ensures sound { IsSound bit_or self.now other.now result }
+        ensures monotone { IsMonotoneAt bits_or self.now other.now }
+    {
+        Bits {
+            zeros: self.zeros & other.zeros,
+            ones: self.ones | other.ones,
+        }
+    }
+
+    /// What is known of `x ^ y`.
+    pub fn xor(&self, other: &Bits) -> Bits
+        ensures value { result ≡ bits_xor self.now other.now }
+        ensures sound { IsSound bit_xor self.now other.now result }
+        ensures monotone { IsMonotoneAt bits_xor self.now other.now }
+    {
+        Bits {
+            zeros: self.zeros & other.zeros | self.ones & other.ones,
+            ones: self.zeros & other.ones | self.ones & other.zeros,
+        }
+    }
+
+    /// What is known of `x + y` modulo 2^64.
+    pub fn add(&self, other: &Bits) -> Bits
+        ensures value { result ≡ bits_add self.now other.now }
+        ensures sound { IsSound (λ x y. word (x + y)) self.now other.now result }
+        ensures monotone { IsMonotoneAt bits_add self.now other.now }
+    {
+        self.tell();
+        other.tell();
+        let least = self.ones.wrapping_add(other.ones);
+        let greatest = least
+            .wrapping_add(self.unknown())
+            .wrapping_add(other.unknown());
+        known_but(least, least ^ greatest | self.unknown() | other.unknown())
+    }
+
+    /// What is known of `x - y` modulo 2^64.
+    pub fn sub(&self, other: &Bits) -> Bits
+        ensures value { result ≡ bits_sub self.now other.now }
+        ensures sound { IsSound (λ x y. word (x + (2 ^ 64 - y))) self.now other.now result }
+        ensures monotone { IsMonotoneAt bits_sub self.now other.now }
+    {
+        self.tell();
+        other.tell();
+        let difference = self.ones.wrapping_sub(other.ones);
+        let greatest = difference.wrapping_add(self.unknown());
+        let least = difference.wrapping_sub(other.unknown());
+        known_but(difference, greatest ^ least | self.unknown() | other.unknown())
+    }
+
+    fn unknown(&self) -> u64
+        ensures { result ≡ unknown self.now }
+    {
+        !(self.zeros | self.ones)
+    }
+}
+
+// The bits of `p` that are not in `unknown`.
+fn known_but(p: u64, unknown: u64) -> Bits
+    ensures { result ≡ known_but p unknown }
+{
+    Bits {
+        zeros: !p & !unknown,
+        ones: p & !unknown,
+    }
+}
