@@ -2,5 +2,7 @@
 #![tactic(auto)]
 
 mod bits;
+#[cfg(test)]
+mod tests;
 
 pub use bits::Bits;

@@ -24,6 +24,10 @@ pub record Laws {A : Type 0} (valid : A → Type 0) (alike : A → A → Type 0)
   pub rank_falls : (x y : A) → valid x → valid y → below x y ≡ true → rank y ≤ rank x
   pub rank_tied : (x y : A) → valid x → valid y → below x y ≡ true → rank x ≡ rank y → x ≡ y
 
+-- all values are of one shape
+abbrev pub AllAlike : {A : Type 0} → A → A → Type 0
+AllAlike x y = Unit {0}
+
 -- z is the least of all valid values that are above each of xs
 pub record IsLeastUpperBound {A : Type 0} (valid : A → Type 0) (below : A → A → Bool) (xs : List A) (z : A) : Type 0 where
   pub valid_bound : valid z

@@ -8,5 +8,7 @@ mod row;
 
 pub use both::Both;
 pub use domain::{Domain, Meaning};
-pub use list::{is_top_each, join_all, join_each, leq_each, set_top_each, stands_each, tell_each};
+pub use list::{
+    is_top_each, join_all, join_changed, join_each, leq_each, set_top_each, stands_each, tell_each,
+};
 pub use row::Row;

@@ -1,6 +1,6 @@
 //! Lists of abstract values, place by place, this project's own.
 
-ghost use Rattle.std.specs.Prelude.{◌≡◌, ℕ, IsTrue, ◌↔◌, All, List, ◌∷◌, fold, map};
+ghost use Rattle.std.specs.Prelude.{◌≡◌, ℕ, IsTrue, IsFalse, ◌↔◌, ◌<◌, All, List, ◌∷◌, fold, map};
 ghost use Rattle.kc_lattice.specs.Laws.{IsLeastUpperBound};
 ghost use Rattle.std.specs.List.{AllZip};
 ghost use Rattle.kc_lattice.specs.Rows.{rows_below, rows_joined};
@@ -75,6 +75,23 @@ pub fn stands_each<V: Meaning>(items: &[V], env: &V::Env, concs: &[V::Conc]) -> 
             return false;
         }
     }
+    true
+}
+
+/// Joins `item`, which is alike it, into `total`, and says whether that changed it: then its rank
+/// fell.
+pub fn join_changed<D: Domain>(total: &mut D, item: &D) -> bool
+    requires { D.alike total.old item.now }
+    ensures value { total.new ≡ D.joined total.old item.now }
+    ensures changed { IsTrue result → D.rank total.new < D.rank total.old }
+    ensures unchanged { IsFalse result → total.new ≡ total.old }
+{
+    total.tell();
+    item.tell();
+    if item.leq(total) {
+        return false;
+    }
+    total.join(item);
     true
 }
 
