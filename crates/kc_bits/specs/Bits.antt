@@ -14,6 +14,10 @@ pub record IsValid (b : KnownBits) : Type 0 where
 abbrev pub StandsFor : KnownBits → ℕ → Type 0
 StandsFor b n = (i : ℕ) → (bit_at b.zeros i ≡ 1 → bit_at n i ≡ 0) × (bit_at b.ones i ≡ 1 → bit_at n i ≡ 1)
 
+-- v is the one word that b stands for
+abbrev pub IsOnly : KnownBits → ℕ → Type 0
+IsOnly b v = StandsFor b v × ((n : ℕ) → n < 2 ^ 64 → StandsFor b n → n ≡ v)
+
 -- the lesser one knows at least the bits of the greater
 abbrev pub is_below : KnownBits → KnownBits → Bool
 is_below lesser greater = (bit_and lesser.zeros greater.zeros == greater.zeros) && (bit_and lesser.ones greater.ones == greater.ones)

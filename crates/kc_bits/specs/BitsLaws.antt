@@ -1,10 +1,10 @@
 -- The laws of known bits as a domain: the `Domain` and the `Meaning` of `Bits` cite these.
-use Rattle.std.proofs.Common.{◌≡◌, ℕ, ◌+◌, ◌^◌, ◌<◌, ◌≤◌, min, Bool, true, ◌&&◌, ◌==◌, bit_and, refl, sym, ap, ◌∙◌, arith, lit<}
+use Rattle.std.proofs.Common.{◌≡◌, ℕ, ◌^◌, ◌<◌, ◌≤◌, min, true, ◌==◌, bit_and, refl, sym, ap, ◌∙◌, arith, lit<}
 use Rattle.std.proofs.lemmas.Bool.{and_parts, and_from, eqb-true, eq-eqb}
 use Rattle.std.proofs.lemmas.Nat.{and_assoc, and_comm, and_le_l}
 use Rattle.std.proofs.lemmas.Nat.Bits.{same_from_bits, bit_at_and, bit_at-zero, bit_at-lt}
 use Rattle.std.specs.Int.{bit_at}
-use Rattle.kc_lattice.specs.Laws.{Laws}
+use Rattle.kc_lattice.specs.Laws.{Laws, AllAlike}
 use Rattle.kc_bits.specs.KnownBits.{KnownBits}
 use Rattle.kc_bits.specs.Bits.{IsValid, StandsFor, is_below, bits_joined, nothing_known, bits_rank}
 
@@ -41,8 +41,8 @@ has_bit x y i h one =
 
 pub apart_parts : (z o z' o' : ℕ) → bit_and z o ≡ 0 → bit_and (bit_and z z') (bit_and o o') ≡ 0
 apart_parts z o z' o' h = same_from_bits (bit_and (bit_and z z') (bit_and o o')) 0 (λ i.
-  let e : min (bit_at z i) (bit_at o i) ≡ 0 = sym (bit_at_and z o i) ∙ ap (λ (v : ℕ). bit_at v i) h ∙ bit_at-zero i in
-  rw (bit_at_and, bit_at_and, bit_at_and, bit_at-zero) (omega (arith, e)))
+    let e : min (bit_at z i) (bit_at o i) ≡ 0 = sym (bit_at_and z o i) ∙ ap (λ (v : ℕ). bit_at v i) h ∙ bit_at-zero i in
+    rw (bit_at_and, bit_at_and, bit_at_and, bit_at-zero) (omega (arith, e)))
 
 -- the order as two facts on masks
 pub record IsBelow (x y : KnownBits) : Type 0 where
@@ -62,10 +62,6 @@ below_from x y h k =
 pub same_bits : (x y : KnownBits) → x.zeros ≡ y.zeros → x.ones ≡ y.ones → x ≡ y
 same_bits x y p q = λ i. record { zeros = p i; ones = q i }
 
--- all known bits are of one shape
-abbrev pub bits_alike : KnownBits → KnownBits → Type 0
-bits_alike a b = Unit {0}
-
 bits_join_valid : (x y : KnownBits) → IsValid x → IsValid y → IsValid (bits_joined x y)
 bits_join_valid x y hx hy =
     let below_zeros : bit_and x.zeros y.zeros ≤ x.zeros = and_le_l x.zeros y.zeros in
@@ -81,7 +77,7 @@ bits_rank_falls x y h =
     let ones : bit_and x.ones y.ones ≤ x.ones = and_le_l x.ones y.ones in
     (omega (arith, b.zeros), omega (arith, b.ones))
 
-pub bits_laws : Laws IsValid bits_alike is_below bits_joined (λ x. nothing_known) bits_rank
+pub bits_laws : Laws IsValid AllAlike is_below bits_joined (λ x. nothing_known) bits_rank
 bits_laws = record {
   alike_refl = λ x h. tt;
   alike_sym = λ x y hx hy h. tt;
@@ -89,20 +85,20 @@ bits_laws = record {
   ordered_alike = λ x y hx hy h. tt;
   below_refl = λ x h. below_from x x (and_self x.zeros) (and_self x.ones);
   below_trans = λ x y z hx hy hz h k.
-    let p = below_facts x y h in
-    let q = below_facts y z k in
-    below_from x z (has_trans x.zeros y.zeros z.zeros p.zeros q.zeros) (has_trans x.ones y.ones z.ones p.ones q.ones);
+      let p = below_facts x y h in
+      let q = below_facts y z k in
+      below_from x z (has_trans x.zeros y.zeros z.zeros p.zeros q.zeros) (has_trans x.ones y.ones z.ones p.ones q.ones);
   below_antisym = λ x y hx hy h k.
-    let p = below_facts x y h in
-    let q = below_facts y x k in
-    same_bits x y (has_antisym x.zeros y.zeros p.zeros q.zeros) (has_antisym x.ones y.ones p.ones q.ones);
+      let p = below_facts x y h in
+      let q = below_facts y x k in
+      same_bits x y (has_antisym x.zeros y.zeros p.zeros q.zeros) (has_antisym x.ones y.ones p.ones q.ones);
   join_valid = λ x y hx hy h. bits_join_valid x y hx hy;
   join_left = λ x y hx hy h. below_from x (bits_joined x y) (has_left x.zeros y.zeros) (has_left x.ones y.ones);
   join_right = λ x y hx hy h. below_from y (bits_joined x y) (has_right x.zeros y.zeros) (has_right x.ones y.ones);
   join_least = λ x y z hx hy hz h k l.
-    let p = below_facts x z k in
-    let q = below_facts y z l in
-    below_from (bits_joined x y) z (has_both x.zeros y.zeros z.zeros p.zeros q.zeros) (has_both x.ones y.ones z.ones p.ones q.ones);
+      let p = below_facts x z k in
+      let q = below_facts y z l in
+      below_from (bits_joined x y) z (has_both x.zeros y.zeros z.zeros p.zeros q.zeros) (has_both x.ones y.ones z.ones p.ones q.ones);
   top_valid = λ x h. record { zeros_fit = lit< tt; ones_fit = lit< tt; apart = refl };
   top_above = λ x y hx hy h. below_from y nothing_known (and_zero y.zeros) (and_zero y.ones);
   rank_falls = λ x y hx hy h. let p = bits_rank_falls x y h in omega (arith, p.0, p.1);
@@ -112,5 +108,5 @@ bits_laws = record {
 -- what a lesser one stands for, a greater one stands for too
 pub bits_grow : (x y : KnownBits) (n : ℕ) → is_below x y ≡ true → StandsFor x n → StandsFor y n
 bits_grow x y n h s = λ i.
-  let b = below_facts x y h in
-  (λ z. (s i).0 (has_bit x.zeros y.zeros i b.zeros z), λ o. (s i).1 (has_bit x.ones y.ones i b.ones o))
+    let b = below_facts x y h in
+    (λ z. (s i).0 (has_bit x.zeros y.zeros i b.zeros z), λ o. (s i).1 (has_bit x.ones y.ones i b.ones o))

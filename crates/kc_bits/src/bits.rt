@@ -1,12 +1,12 @@
 //! Known bits of 64-bit words, this project's own: the tristate numbers of Linux's BPF verifier.
 
 ghost use Rattle.std.specs.Prelude.{◌≡◌, ℕ, ◌+◌, ◌-◌, ◌%◌, ◌^◌, ◌<◌, bit_and, bit_or, bit_xor, IfSome, IsTrue, ◌↔◌};
-ghost use Rattle.kc_bits.specs.Bits.{IsValid, StandsFor, is_below, bits_joined, nothing_known, bits_rank, all_of, unknown, bits_single, bits_and, bits_or, bits_xor, known_but, bits_add, bits_sub, IsSound, IsMonotoneAt, word};
-ghost use Rattle.kc_bits.specs.BitsLaws.{bits_alike, bits_laws, bits_grow};
-
-use std::marker::Model;
+ghost use Rattle.kc_bits.specs.Bits.{IsValid, StandsFor, IsOnly, is_below, bits_joined, nothing_known, bits_rank, all_of, unknown, bits_single, bits_and, bits_or, bits_xor, known_but, bits_add, bits_sub, IsSound, IsMonotoneAt, word};
+ghost use Rattle.kc_bits.specs.BitsLaws.{bits_laws, bits_grow};
+ghost use Rattle.kc_lattice.specs.Laws.{AllAlike};
 
 use kc_lattice::{Domain, Meaning};
+use std::marker::Model;
 
 /// What is known of the bits of a 64-bit word: those in `zeros` are 0, those in `ones` are 1, and
 /// no bit is in both. It stands for each word that has these bits.
@@ -32,7 +32,7 @@ impl Model for Bits {
 impl Domain for Bits {
     ghost valid = { IsValid };
 
-    ghost alike = { bits_alike };
+    ghost alike = { AllAlike };
 
     ghost below = { is_below };
 
@@ -86,18 +86,15 @@ impl Bits {
     /// All bits of `v`.
     pub fn of(v: u64) -> Bits
         ensures value { result ≡ all_of v }
-        ensures only { (n : ℕ) → n < 2 ^ 64 → StandsFor result n → n ≡ v }
+        ensures only { IsOnly result v }
     {
-        Bits {
-            zeros: !v,
-            ones: v,
-        }
+        Bits { zeros: !v, ones: v }
     }
 
     /// The number, where all bits are known.
     pub fn single(&self) -> Option<u64>
         ensures value { result ≡ bits_single self.now }
-        ensures only { IfSome result (λ v. StandsFor self.now v × ((n : ℕ) → n < 2 ^ 64 → StandsFor self.now n → n ≡ v)) }
+        ensures only { IfSome result (IsOnly self.now) }
     {
         self.tell();
         if self.unknown() == 0 {
@@ -169,7 +166,10 @@ impl Bits {
         let difference = self.ones.wrapping_sub(other.ones);
         let greatest = difference.wrapping_add(self.unknown());
         let least = difference.wrapping_sub(other.unknown());
-        known_but(difference, greatest ^ least | self.unknown() | other.unknown())
+        known_but(
+            difference,
+            greatest ^ least | self.unknown() | other.unknown(),
+        )
     }
 
     fn unknown(&self) -> u64

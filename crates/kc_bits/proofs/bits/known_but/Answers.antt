@@ -1,6 +1,5 @@
-use Rattle.std.proofs.Common.{◌<◌, ◌^◌, arith}
+use Rattle.std.proofs.Common.{arith}
 use Rattle.kc_bits.proofs.Masks.{known_but-valid}
-use Rattle.kc_bits.specs.Bits.{IsValid}
 use Rattle.kc_bits.proofs.bits.known_but.Goals as goal
 
 pub invariant_of-result : goal.invariant_of-result

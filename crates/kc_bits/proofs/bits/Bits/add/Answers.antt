@@ -1,4 +1,4 @@
-use Rattle.std.proofs.Common.{ℕ, ◌+◌, ◌-◌, ◌^◌, ◌≡◌, sym, subst, rules}
+use Rattle.std.proofs.Common.{ℕ, ◌+◌, ◌≡◌, sym, subst, rules}
 use Rattle.kc_bits.specs.KnownBits.{KnownBits}
 use Rattle.kc_bits.specs.Bits.{IsSound, bits_add, word}
 use Rattle.kc_bits.proofs.Sums.{add_sound, add_monotone}

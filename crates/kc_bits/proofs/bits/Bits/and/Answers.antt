@@ -1,4 +1,3 @@
-use Rattle.std.proofs.Common.{◌≡◌}
 use Rattle.kc_bits.proofs.Operations.{and_apart, and_sound, and_monotone}
 use Rattle.kc_bits.proofs.bits.Bits.and.Goals as goal
 

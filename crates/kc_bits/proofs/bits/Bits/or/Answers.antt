@@ -1,4 +1,3 @@
-use Rattle.std.proofs.Common.{◌≡◌}
 use Rattle.kc_bits.proofs.Operations.{or_apart, or_sound, or_monotone}
 use Rattle.kc_bits.proofs.bits.Bits.or.Goals as goal
 

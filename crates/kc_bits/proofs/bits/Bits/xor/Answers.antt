@@ -1,4 +1,3 @@
-use Rattle.std.proofs.Common.{◌≡◌}
 use Rattle.kc_bits.proofs.Operations.{xor_apart, xor_sound, xor_monotone}
 use Rattle.kc_bits.proofs.bits.Bits.xor.Goals as goal
 
