@@ -97,11 +97,8 @@ impl Bits {
         ensures only { IfSome result (IsOnly self.now) }
     {
         self.tell();
-        if self.unknown() == 0 {
-            Some(self.ones)
-        } else {
-            None
-        }
+        let open = self.unknown();
+        if open == 0 { Some(self.ones) } else { None }
     }
 
     /// What is known of `x & y`, where `self` stands for x and `other` for y.

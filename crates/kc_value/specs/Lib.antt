@@ -1,0 +1,2 @@
+pub mod AbsValue
+pub mod Symbol
