@@ -3,3 +3,4 @@ pub mod Masks
 pub mod Operations
 pub mod Sums
 pub mod Whole
+pub mod Cut

@@ -13,7 +13,7 @@ has_and x y x' y' h k = same_from_bits (bit_and (bit_and x y) (bit_and x' y')) (
     let f : min (bit_at y i) (bit_at y' i) ≡ bit_at y' i = sym (bit_at_and y y' i) ∙ ap (λ (v : ℕ). bit_at v i) k in
     rw (bit_at_and (bit_and x y) (bit_and x' y') i, bit_at_and x y i, bit_at_and x' y' i) (omega (arith, e, f)))
 
-has_or : (x y x' y' : ℕ) → Has x x' → Has y y' → Has (bit_or x y) (bit_or x' y')
+pub has_or : (x y x' y' : ℕ) → Has x x' → Has y y' → Has (bit_or x y) (bit_or x' y')
 has_or x y x' y' h k = same_from_bits (bit_and (bit_or x y) (bit_or x' y')) (bit_or x' y') (λ i.
     let e : min (bit_at x i) (bit_at x' i) ≡ bit_at x' i = sym (bit_at_and x x' i) ∙ ap (λ (v : ℕ). bit_at v i) h in
     let f : min (bit_at y i) (bit_at y' i) ≡ bit_at y' i = sym (bit_at_and y y' i) ∙ ap (λ (v : ℕ). bit_at v i) k in

@@ -81,6 +81,10 @@ bits_sub a b =
     let p : ℕ = word (a.ones + (2 ^ 64 - b.ones)) in
     known_but p (bit_or (bit_or (bit_xor (word (p + unknown a)) (word (p + (2 ^ 64 - unknown b)))) (unknown a)) (unknown b))
 
+-- the low n bits of b, with 0 above them
+abbrev pub bits_cut : ℕ → KnownBits → KnownBits
+bits_cut n b = record { zeros = b.zeros % 2 ^ n + (2 ^ 64 - 2 ^ n); ones = b.ones % 2 ^ n }
+
 -- r stands for f of all words that a and b stand for
 abbrev pub IsSound : (ℕ → ℕ → ℕ) → KnownBits → KnownBits → KnownBits → Type 0
 IsSound f a b r = (x y : ℕ) → x < 2 ^ 64 → y < 2 ^ 64 → StandsFor a x → StandsFor b y → StandsFor r (f x y)

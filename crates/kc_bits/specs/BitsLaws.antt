@@ -8,7 +8,7 @@ use Rattle.kc_lattice.specs.Laws.{Laws, AllAlike}
 use Rattle.kc_bits.specs.KnownBits.{KnownBits}
 use Rattle.kc_bits.specs.Bits.{IsValid, StandsFor, is_below, bits_joined, nothing_known, bits_rank}
 
-and_self : (x : ℕ) → bit_and x x ≡ x
+pub and_self : (x : ℕ) → bit_and x x ≡ x
 and_self x = same_from_bits (bit_and x x) x (λ i. bit_at_and x x i ∙ omega arith)
 
 and_zero : (x : ℕ) → bit_and x 0 ≡ 0
@@ -18,10 +18,10 @@ and_zero x = same_from_bits (bit_and x 0) 0 (λ i. bit_at_and x 0 i ∙ omega (a
 abbrev pub Has : ℕ → ℕ → Type 0
 Has x y = bit_and x y ≡ y
 
-has_trans : (x y z : ℕ) → Has x y → Has y z → Has x z
+pub has_trans : (x y z : ℕ) → Has x y → Has y z → Has x z
 has_trans x y z h k = ap (bit_and x) (sym k) ∙ sym (and_assoc z x y) ∙ ap (λ (v : ℕ). bit_and v z) h ∙ k
 
-has_antisym : (x y : ℕ) → Has x y → Has y x → x ≡ y
+pub has_antisym : (x y : ℕ) → Has x y → Has y x → x ≡ y
 has_antisym x y h k = sym k ∙ and_comm y x ∙ h
 
 has_left : (x y : ℕ) → Has x (bit_and x y)

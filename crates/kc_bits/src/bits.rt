@@ -1,11 +1,14 @@
 //! Known bits of 64-bit words, this project's own: the tristate numbers of Linux's BPF verifier.
 
-ghost use Rattle.std.specs.Prelude.{◌≡◌, ℕ, ◌+◌, ◌-◌, ◌%◌, ◌^◌, ◌<◌, bit_and, bit_or, bit_xor, IfSome, IsTrue, ◌↔◌};
-ghost use Rattle.kc_bits.specs.Bits.{IsValid, StandsFor, IsOnly, is_below, bits_joined, nothing_known, bits_rank, all_of, unknown, bits_single, bits_and, bits_or, bits_xor, known_but, bits_add, bits_sub, IsSound, IsMonotoneAt, word};
+ghost use Rattle.std.specs.Prelude.{◌≡◌, ℕ, ◌+◌, ◌-◌, ◌%◌, ◌^◌, ◌<◌, bit_and, bit_or, bit_xor, IfSome, IsTrue, ◌↔◌, true};
+ghost use Rattle.kc_bits.specs.Bits.{IsValid, StandsFor, IsOnly, is_below, bits_joined, nothing_known, bits_rank, all_of, unknown, bits_single, bits_and, bits_or, bits_xor, known_but, bits_add, bits_sub, bits_cut, IsSound, IsMonotoneAt, word};
+ghost use Rattle.kc_bits.specs.KnownBits.{KnownBits};
+ghost use Rattle.kc_words.specs.Flags.{bits_of, cut};
 ghost use Rattle.kc_bits.specs.BitsLaws.{bits_laws, bits_grow};
 ghost use Rattle.kc_lattice.specs.Laws.{AllAlike};
 
 use kc_lattice::{Domain, Meaning};
+use kc_words::Width;
 use std::marker::Model;
 
 /// What is known of the bits of a 64-bit word: those in `zeros` are 0, those in `ones` are 1, and
@@ -167,6 +170,20 @@ impl Bits {
             difference,
             greatest ^ least | self.unknown() | other.unknown(),
         )
+    }
+
+    /// What is known of the low bits of `x` that an operand of `width` takes, with 0 above them.
+    pub fn cut(&self, width: Width) -> Bits
+        ensures value { result ≡ bits_cut (bits_of width) self.now }
+        ensures sound { (x : ℕ) → x < 2 ^ 64 → StandsFor self.now x → StandsFor result (cut width x) }
+        ensures monotone { (b : KnownBits) → IsValid b → is_below self.now b ≡ true → is_below result (bits_cut (bits_of width) b) ≡ true }
+    {
+        self.tell();
+        let above = !width.cut(u64::MAX);
+        Bits {
+            zeros: width.cut(self.zeros) | above,
+            ones: width.cut(self.ones),
+        }
     }
 
     fn unknown(&self) -> u64

@@ -1,2 +1,6 @@
 pub mod AbsValue
 pub mod Symbol
+pub mod Place
+pub mod Value
+pub mod SymbolLaws
+pub mod ValueLaws

@@ -1,8 +1,9 @@
 -- Symbols of values, this project's own: their order under Plain, and the number that each names.
-use Rattle.std.specs.Prelude.{◌≡◌, ℕ, ℤ, ◌+◌, ◌<◌, Bool, true, false, cond, ◌==◌, List, get_or, FitsSigned}
+use Rattle.std.specs.Prelude.{◌≡◌, ℕ, ◌+◌, ◌<◌, Bool, true, false, cond, ◌==◌, get_or, FitsSigned}
 use Rattle.std.specs.Int.{w64, cast_unsigned}
 use Rattle.std.specs.Ordering.{int_eq}
 use Rattle.kc_bits.specs.Bits.{word}
+use Rattle.kc_value.specs.declared.env.ValueEnv.{ValueEnv}
 use Rattle.kc_value.specs.declared.symbol.Sym.{Sym}
 use Rattle.kc_value.specs.declared.symbol.Sym.TheVariants.{Plain, Base, Entry, UserGs}
 
@@ -19,22 +20,24 @@ is_same_sym (Entry v) (Entry w) = v == w
 is_same_sym UserGs UserGs = true
 is_same_sym _ _ = false
 
+abbrev pub is_plain : Sym → Bool
+is_plain Plain = true
+is_plain _ = false
+
 -- the same, or the greater is Plain
 abbrev pub is_sym_below : Sym → Sym → Bool
-is_sym_below lesser Plain = true
-is_sym_below lesser greater = is_same_sym lesser greater
+is_sym_below lesser greater = cond (is_plain greater) true (is_same_sym lesser greater)
 
 -- unequal symbols give Plain
 abbrev pub sym_joined : Sym → Sym → Sym
 sym_joined s t = cond (is_same_sym s t) s Plain
 
 abbrev pub sym_rank : Sym → ℕ
-sym_rank Plain = 0
-sym_rank _ = 1
+sym_rank s = cond (is_plain s) 0 1
 
 -- n is what the symbol names: the base plus k, word w of the interrupted processor, or the user's GS base
-abbrev pub Names : Sym → List ℕ → ℕ → ℕ → ℕ → Type 0
-Names Plain words base user_gs n = Unit {0}
-Names (Base k) words base user_gs n = n ≡ word (base + cast_unsigned w64 k)
-Names (Entry w) words base user_gs n = n ≡ get_or words w 0
-Names UserGs words base user_gs n = n ≡ user_gs
+abbrev pub Names : Sym → ValueEnv → ℕ → Type 0
+Names Plain env n = Unit {0}
+Names (Base k) env n = n ≡ word (env.base + cast_unsigned w64 k)
+Names (Entry w) env n = n ≡ get_or env.words w 0
+Names UserGs env n = n ≡ env.user_gs
