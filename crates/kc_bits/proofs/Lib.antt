@@ -4,3 +4,4 @@ pub mod Operations
 pub mod Sums
 pub mod Whole
 pub mod Cut
+pub mod Prefix

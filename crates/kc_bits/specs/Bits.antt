@@ -2,6 +2,9 @@
 -- Linux's BPF verifier computes them.
 use Rattle.std.specs.Prelude.{◌≡◌, ℕ, ◌+◌, ◌-◌, ◌%◌, ◌^◌, ◌<◌, Bool, true, cond, ◌&&◌, ◌==◌, bit_and, bit_or, bit_xor, Option, Some, None}
 use Rattle.std.specs.Int.{bit_at}
+use Rattle.std.specs.Int.Count.{count_leading_zeros}
+use Rattle.kc_words.specs.Range.{Range}
+use Rattle.kc_words.specs.Span.{Holds}
 use Rattle.kc_bits.specs.KnownBits.{KnownBits}
 
 -- both masks are 64-bit words, and no bit is in both
@@ -84,6 +87,14 @@ bits_sub a b =
 -- the low n bits of b, with 0 above them
 abbrev pub bits_cut : ℕ → KnownBits → KnownBits
 bits_cut n b = record { zeros = b.zeros % 2 ^ n + (2 ^ 64 - 2 ^ n); ones = b.ones % 2 ^ n }
+
+-- the bits above the highest one in which the first and the last address of the span differ
+abbrev pub bits_prefix : Range → KnownBits
+bits_prefix s = known_but s.from (2 ^ (64 - count_leading_zeros 64 (bit_xor s.from (s.to - 1))) - 1)
+
+-- bit i of some two addresses of the span differs
+abbrev pub DiffersIn : Range → ℕ → Type 0
+DiffersIn s i = (a : ℕ) × (b : ℕ) × Holds s a × Holds s b × (bit_at a i ≡ 0) × (bit_at b i ≡ 1)
 
 -- r stands for f of all words that a and b stand for
 abbrev pub IsSound : (ℕ → ℕ → ℕ) → KnownBits → KnownBits → KnownBits → Type 0

@@ -1,14 +1,17 @@
 //! Known bits of 64-bit words, this project's own: the tristate numbers of Linux's BPF verifier.
 
 ghost use Rattle.std.specs.Prelude.{◌≡◌, ℕ, ◌+◌, ◌-◌, ◌%◌, ◌^◌, ◌<◌, bit_and, bit_or, bit_xor, IfSome, IsTrue, ◌↔◌, true};
-ghost use Rattle.kc_bits.specs.Bits.{IsValid, StandsFor, IsOnly, is_below, bits_joined, nothing_known, bits_rank, all_of, unknown, bits_single, bits_and, bits_or, bits_xor, known_but, bits_add, bits_sub, bits_cut, IsSound, IsMonotoneAt, word};
+ghost use Rattle.kc_bits.specs.Bits.{IsValid, StandsFor, IsOnly, is_below, bits_joined, nothing_known, bits_rank, all_of, unknown, bits_single, bits_and, bits_or, bits_xor, known_but, bits_add, bits_sub, bits_cut, bits_prefix, DiffersIn, IsSound, IsMonotoneAt, word};
 ghost use Rattle.kc_bits.specs.KnownBits.{KnownBits};
+ghost use Rattle.std.specs.Int.{bit_at};
+ghost use Rattle.std.specs.Int.Count.{count_leading_zeros};
+ghost use Rattle.kc_words.specs.Span.{Holds};
 ghost use Rattle.kc_words.specs.Flags.{bits_of, cut};
 ghost use Rattle.kc_bits.specs.BitsLaws.{bits_laws, bits_grow};
 ghost use Rattle.kc_lattice.specs.Laws.{AllAlike};
 
 use kc_lattice::{Domain, Meaning};
-use kc_words::Width;
+use kc_words::{Span, Width};
 use std::marker::Model;
 
 /// What is known of the bits of a 64-bit word: those in `zeros` are 0, those in `ones` are 1, and
@@ -92,6 +95,16 @@ impl Bits {
         ensures only { IsOnly result v }
     {
         Bits { zeros: !v, ones: v }
+    }
+
+    /// The bits in which all addresses of `span`, which has an address, agree.
+    pub fn prefix(span: &Span) -> Bits
+        requires { span.now.from < span.now.to }
+        ensures value { result ≡ bits_prefix span.now }
+        ensures sound { (a : ℕ) → Holds span.now a → StandsFor result a }
+        ensures exact { (i : ℕ) → i < 64 → bit_at (unknown result) i ≡ 1 → DiffersIn span.now i }
+    {
+        known_but(span.from, up_to_highest(span.from ^ (span.to - 1)))
     }
 
     /// The number, where all bits are known.
@@ -200,5 +213,15 @@ fn known_but(p: u64, unknown: u64) -> Bits
     Bits {
         zeros: !p & !unknown,
         ones: p & !unknown,
+    }
+}
+
+// Ones from bit 0 to the highest 1 of `n`.
+fn up_to_highest(n: u64) -> u64
+    ensures { result ≡ 2 ^ (64 - count_leading_zeros 64 n) - 1 }
+{
+    match u64::MAX.checked_shr(n.leading_zeros()) {
+        Some(ones) => ones,
+        None => 0,
     }
 }

@@ -4,6 +4,7 @@ ghost use Rattle.std.specs.Prelude.{IsTrue, ◌≤◌, ◌<◌};
 
 use crate::Bits;
 use kc_lattice::{Both, Domain, Meaning, Row, join_all};
+use kc_words::{Span, Width};
 
 // The join of two alike values stands for what the first stood for, lies above the second, and has
 // no greater rank: the laws as a caller has them by a bound alone.
@@ -99,6 +100,12 @@ fn single_bits_and_laws(rt: HostRuntime) {
     assert_eq!(rt; left.single(), None);
     assert_eq!(rt; Bits::of(u64::MAX).single(), Some(u64::MAX));
     assert!(rt; left.stands(&(), &0o222) && left.stands(&(), &0o626) && !left.stands(&(), &0o223));
+
+    assert_eq!(rt; left.cut(Width::Byte), pattern(0o222, 0o266, 0));
+    // The addresses 0x1030 to 0x105f share bit 12 and the zeros but bits 0 to 6.
+    let stack = Span { from: 0x1030, to: 0x1060 };
+    assert_eq!(rt; Bits::prefix(&stack), Bits { zeros: !0x107F, ones: 0x1000 });
+    assert_eq!(rt; Bits::prefix(&Span { from: 7, to: 8 }), Bits::of(7));
 
     let mut five = Bits::of(5);
     assert!(rt; join_keeps(&mut five, &Bits::of(4), &(), &5));
