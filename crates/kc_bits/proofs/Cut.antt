@@ -1,5 +1,5 @@
 -- The low bits of an operand: what is known of them is sound and monotone.
-use Rattle.std.proofs.Common.{◌≡◌, ℕ, ◌+◌, ◌-◌, ◌*◌, ◌/◌, ◌%◌, ◌^◌, ◌<◌, ◌≤◌, Bool, true, bit_and, bit_or, arith, refl, sym, ap, ◌∙◌, inl, inr, lit≤, max, min}
+use Rattle.std.proofs.Common.{◌≡◌, ℕ, ◌+◌, ◌-◌, ◌*◌, ◌%◌, ◌^◌, ◌<◌, ◌≤◌, true, bit_and, bit_or, arith, refl, sym, ap, ◌∙◌, inl, inr, lit≤}
 use Rattle.std.proofs.lemmas.Bool.{cases_lt}
 use Rattle.std.proofs.lemmas.Nat.{or_disjoint, and_mod, mod_below, pow_pos}
 use Rattle.std.proofs.lemmas.Nat.Bits.{same_from_bits, bit_at_and, bit_at_or, bit_at-zero, bit_at_above, bit_at_mask_below, and_high_mask}
@@ -50,26 +50,27 @@ cut_apart w b h =
     let ones : ℕ = b.ones % 2 ^ n in
     let range = bits_in_range w in
     same_from_bits (bit_and zeros ones) 0 (λ i.
-      bit_at_and zeros ones i
-      ∙ elim (cases_lt i n) [
-        inl k ↦
+    bit_at_and zeros ones i
+    ∙ elim (cases_lt i n) [
+      | inl k ↦
           omega (arith, bit_at-cut_sum n range.1 (b.zeros % 2 ^ n) (low_fits b.zeros n) i k, bit_at-mod b.zeros n i k, bit_at-mod b.ones n i k, apart_bits b h i, bit_at-zero i)
       | inr k ↦ omega (arith, bit_at_above ones n i (low_fits b.ones n) k, bit_at-zero i)
-      ])
+    ])
 
 pub cut_sound : (w : Width) (b : KnownBits) (x : ℕ) → StandsFor b x → StandsFor (bits_cut (bits_of w) b) (cut w x)
 cut_sound w b x s = λ i.
-  let n : ℕ = bits_of w in
-  let range = bits_in_range w in
-  elim (cases_lt i n) [
-    inl k ↦
-      let same = bit_at-mod x n i k in
-      let z = bit_at-cut_sum n range.1 (b.zeros % 2 ^ n) (low_fits b.zeros n) i k in
-      (λ e. same ∙ (s i).0 (sym (bit_at-mod b.zeros n i k) ∙ sym z ∙ e), λ e. same ∙ (s i).1 (sym (bit_at-mod b.ones n i k) ∙ e))
-  | inr k ↦
-      (λ e. bit_at_above (x % 2 ^ n) n i (low_fits x n) k,
-      λ e. absurd (omega (arith, e, bit_at_above (b.ones % 2 ^ n) n i (low_fits b.ones n) k)))
-  ]
+    let n : ℕ = bits_of w in
+    let range = bits_in_range w in
+    elim (cases_lt i n) [
+      | inl k ↦
+          let same = bit_at-mod x n i k in
+          let z = bit_at-cut_sum n range.1 (b.zeros % 2 ^ n) (low_fits b.zeros n) i k in
+          (λ e. same ∙ (s i).0 (sym (bit_at-mod b.zeros n i k) ∙ sym z ∙ e), λ e. same ∙ (s i).1 (sym (bit_at-mod b.ones n i k) ∙ e))
+      | inr k ↦ (
+        λ e. bit_at_above (x % 2 ^ n) n i (low_fits x n) k,
+        λ e. absurd (omega (arith, e, bit_at_above (b.ones % 2 ^ n) n i (low_fits b.ones n) k)),
+      )
+    ]
 
 has_mod : (x y n : ℕ) → Has x y → Has (x % 2 ^ n) (y % 2 ^ n)
 has_mod x y n h = sym (and_mod x y n) ∙ ap (λ (v : ℕ). v % 2 ^ n) h
@@ -83,7 +84,7 @@ cut_monotone w a b h =
     let sum_a : bit_or (a.zeros % 2 ^ n) m ≡ (bits_cut n a).zeros = cut_sum n range.1 (a.zeros % 2 ^ n) (low_fits a.zeros n) in
     let sum_b : bit_or (b.zeros % 2 ^ n) m ≡ (bits_cut n b).zeros = cut_sum n range.1 (b.zeros % 2 ^ n) (low_fits b.zeros n) in
     let joined : Has (bit_or (a.zeros % 2 ^ n) m) (bit_or (b.zeros % 2 ^ n) m) =
-        has_or (a.zeros % 2 ^ n) m (b.zeros % 2 ^ n) m (has_mod a.zeros b.zeros n p.zeros) (and_self m) in
+    has_or (a.zeros % 2 ^ n) m (b.zeros % 2 ^ n) m (has_mod a.zeros b.zeros n p.zeros) (and_self m) in
     below_from (bits_cut n a) (bits_cut n b)
     (ap (λ (x : ℕ). bit_and x (bits_cut n b).zeros) (sym sum_a) ∙ ap (bit_and (bit_or (a.zeros % 2 ^ n) m)) (sym sum_b) ∙ joined ∙ sum_b)
     (has_mod a.ones b.ones n p.ones)

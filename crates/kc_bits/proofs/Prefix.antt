@@ -1,6 +1,6 @@
 -- The bits in which all addresses of a span agree.
-use Rattle.std.proofs.Common.{◌≡◌, ℕ, suc, ◌+◌, ◌-◌, ◌*◌, ◌/◌, ◌%◌, ◌^◌, ◌<◌, ◌≤◌, bit_xor, arith, refl, sym, ap, ◌∙◌, subst, inl, inr, max, min, lit≤, add-zero}
-use Rattle.std.proofs.lemmas.Bool.{cases_lt, cases_eq}
+use Rattle.std.proofs.Common.{◌≡◌, ℕ, ◌+◌, ◌-◌, ◌*◌, ◌/◌, ◌%◌, ◌^◌, ◌<◌, ◌≤◌, bit_xor, arith, sym, ap, ◌∙◌, subst, inl, inr, lit≤, add-zero}
+use Rattle.std.proofs.lemmas.Bool.{cases_lt}
 use Rattle.std.proofs.lemmas.Nat.{shr-shr, shr_high, pow-add, xor_shr, shr_split, pow_pos, leading_length, xor_lt, mod_below}
 use Rattle.std.proofs.lemmas.Nat.Bits.{same_from_bits, bit_at_xor, bit_at-zero, bit_at-lt, bit_at_cat_high, bit_at_cat_low, bit_at_ones, bit_at_ones_above}
 use Rattle.std.proofs.Math.Nat.{div-eq_of_lt, pow-le-pow_right}
@@ -9,14 +9,13 @@ use Rattle.std.specs.Int.{bit_at}
 use Rattle.std.specs.Int.Count.{count_leading_zeros}
 use Rattle.kc_words.specs.Range.{Range}
 use Rattle.kc_words.specs.Span.{Holds}
-use Rattle.kc_bits.specs.KnownBits.{KnownBits}
 use Rattle.kc_bits.specs.Bits.{StandsFor, known_but, unknown, bits_prefix, DiffersIn}
 use Rattle.kc_bits.proofs.Masks.{known_but-stands, known_but-valid, bit_at-known_but, bit_at-unknown}
 
 same_from_xor : (x y : ℕ) → bit_xor x y ≡ 0 → x ≡ y
 same_from_xor x y h = same_from_bits x y (λ i.
-  let e : (bit_at x i + bit_at y i) % 2 ≡ 0 = sym (bit_at_xor x y i) ∙ ap (λ (v : ℕ). bit_at v i) h ∙ bit_at-zero i in
-  omega (arith, e, bit_at-lt x i, bit_at-lt y i))
+    let e : (bit_at x i + bit_at y i) % 2 ≡ 0 = sym (bit_at_xor x y i) ∙ ap (λ (v : ℕ). bit_at v i) h ∙ bit_at-zero i in
+    omega (arith, e, bit_at-lt x i, bit_at-lt y i))
 
 -- a bit from m on is one of the number without its low m bits
 bit_at-shr : (x m i : ℕ) → m ≤ i → bit_at x i ≡ bit_at (x / 2 ^ m) (i - m)
@@ -52,15 +51,20 @@ differs f l k i le high top h =
     let small : f % p < p = mod_below f p (pow_pos k) in
     let edge : upper * p ≡ lower * p + p = ap (λ (n : ℕ). n * p) next ∙ omega arith in
     elim (cases_lt i k) [
-      inl under ↦
-        let zero_bit : bit_at (upper * p) i ≡ 0 =
+      | inl under ↦
+          let zero_bit : bit_at (upper * p) i ≡ 0 =
           ap (λ (n : ℕ). bit_at n i) (sym (add-zero (upper * p))) ∙ bit_at_cat_low upper k 0 i under ∙ bit_at-zero i in
-        let one_bit : bit_at (lower * p + (p - 1)) i ≡ 1 = bit_at_cat_low lower k (p - 1) i under ∙ bit_at_ones k i under in
-        (upper * p, lower * p + (p - 1), (omega (arith, split_f, split_l, small, edge), omega (arith, split_l)),
-            (omega (arith, split_f, small), omega (arith, split_l, edge, pow_pos k)), zero_bit, one_bit)
-    | inr above ↦
-        let same : i ≡ k = omega arith in
-        (f, l, (omega arith, le), (le, omega arith), ap (bit_at f) same ∙ even, ap (bit_at l) same ∙ omega (arith, even, odd))
+          let one_bit : bit_at (lower * p + (p - 1)) i ≡ 1 = bit_at_cat_low lower k (p - 1) i under ∙ bit_at_ones k i under in (
+            upper * p,
+            lower * p + (p - 1),
+            (omega (arith, split_f, split_l, small, edge), omega (arith, split_l)),
+            (omega (arith, split_f, small), omega (arith, split_l, edge, pow_pos k)),
+            zero_bit,
+            one_bit,
+          )
+      | inr above ↦
+          let same : i ≡ k = omega arith in
+          (f, l, (omega arith, le), (le, omega arith), ap (bit_at f) same ∙ even, ap (bit_at l) same ∙ omega (arith, even, odd))
     ]
 
 -- the number of bits from 0 to the highest 1
@@ -102,11 +106,11 @@ module _ (s : Range) (h : s.from < s.to) (fits : s.to < 2 ^ 64) where
 
   pub prefix_sound : (a : ℕ) → Holds s a → StandsFor (bits_prefix s) a
   prefix_sound a held = known_but-stands s.from (2 ^ bits_open - 1) from_fits mask_fits a (λ i k e.
-    between s.from last bits_open length_is.below a i held.0 (omega (arith, held.1)) (mask_bit bits_open i e))
+      between s.from last bits_open length_is.below a i held.0 (omega (arith, held.1)) (mask_bit bits_open i e))
 
   pub prefix_exact : (i : ℕ) → i < 64 → bit_at (unknown (bits_prefix s)) i ≡ 1 → DiffersIn s i
   prefix_exact i k e = elim (cases_lt i bits_open) [
-      inr above ↦
+    | inr above ↦
         let p = s.from in
         let u : ℕ = 2 ^ bits_open - 1 in
         let b = bit_at-known_but p u from_fits mask_fits i k in
@@ -125,4 +129,4 @@ module _ (s : Range) (h : s.from < s.to) (fits : s.to < 2 ^ 64) where
         let top : bit_at differing m ≡ 1 = ap (λ (n : ℕ). n % 2) shifted in
         let r = differs s.from last m i (omega arith) (same_high s.from last (m + 1) below) top (omega (arith, whole, under)) in
         (r.0, r.1, (r.2.0, omega (arith, r.2.1)), (r.3.0, omega (arith, r.3.1)), r.4, r.5)
-    ]
+  ]

@@ -103,8 +103,17 @@ fn single_bits_and_laws(rt: HostRuntime) {
 
     assert_eq!(rt; left.cut(Width::Byte), pattern(0o222, 0o266, 0));
     // The addresses 0x1030 to 0x105f share bit 12 and the zeros but bits 0 to 6.
-    let stack = Span { from: 0x1030, to: 0x1060 };
-    assert_eq!(rt; Bits::prefix(&stack), Bits { zeros: !0x107F, ones: 0x1000 });
+    let stack = Span {
+        from: 0x1030,
+        to: 0x1060,
+    };
+    assert_eq!(rt;
+        Bits::prefix(&stack),
+        Bits {
+            zeros: !0x107F,
+            ones: 0x1000
+        }
+    );
     assert_eq!(rt; Bits::prefix(&Span { from: 7, to: 8 }), Bits::of(7));
 
     let mut five = Bits::of(5);

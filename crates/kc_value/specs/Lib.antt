@@ -4,3 +4,4 @@ pub mod Place
 pub mod Value
 pub mod SymbolLaws
 pub mod ValueLaws
+pub mod Made

@@ -31,7 +31,7 @@ or_least x y z h k = same_from_bits (bit_and z (bit_or x y)) (bit_or x y) (λ i.
   let f : min (bit_at z i) (bit_at y i) ≡ bit_at y i = sym (bit_at_and z y i) ∙ ap (λ (v : ℕ). bit_at v i) k in
   bit_at_and z (bit_or x y) i ∙ omega (arith, bit_at_or x y i, e, f))
 
-has_all : (x : ℕ) → x < 2 ^ 17 → Has all_places x
+pub has_all : (x : ℕ) → x < 2 ^ 17 → Has all_places x
 has_all x h = and_comm all_places x ∙ and_mask x 17 ∙ mod-eq_of_lt h
 
 -- ---- the order as three facts

@@ -2,6 +2,7 @@
 #![tactic(auto)]
 
 mod env;
+mod made;
 mod symbol;
 mod value;
 

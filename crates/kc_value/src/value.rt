@@ -16,7 +16,7 @@ use crate::env::ValueEnv;
 use crate::symbol::Sym;
 
 // Each of the 16 stacks, and outside.
-const ALL_PLACES: u32 = 0x1_FFFF;
+pub(crate) const ALL_PLACES: u32 = 0x1_FFFF;
 
 /// What is known of a 64-bit word: its symbol, its bits, and the stacks in which it may lie.
 #[derive(Clone, Copy, PartialEq, Eq, Debug)]
