@@ -1,11 +1,10 @@
 -- What is made of numbers and bits stands for what it should, and is monotone.
-use Rattle.std.proofs.Common.{◌≡◌, ℕ, ◌+◌, ◌-◌, ◌%◌, ◌^◌, ◌<◌, ◌≤◌, ◌==◌, Bool, true, false, cond, Option, Some, None, bit_and, refl, sym, ap, ◌∙◌, subst, inl, inr, ◌⊎◌, arith}
+use Rattle.std.proofs.Common.{◌≡◌, ℕ, ◌%◌, ◌^◌, ◌<◌, ◌≤◌, Bool, true, cond, Option, Some, None, bit_and, refl, sym, ap, ◌∙◌, subst, inl, inr, ◌⊎◌, arith}
 use Rattle.std.proofs.lemmas.Bool.{cases_eq, eq-eqb, ne_eqb}
 use Rattle.std.proofs.lemmas.Nat.{pow_below}
 use Rattle.std.proofs.lemmas.Nat.Bits.{bit_at-pow_same, bit_at_ones}
-use Rattle.std.specs.Int.{bit_at}
 use Rattle.kc_bits.specs.KnownBits.{KnownBits}
-use Rattle.kc_bits.specs.Bits.{IsValid, StandsFor, is_below, all_of, unknown, bits_single, bits_cut, bits_rank}
+use Rattle.kc_bits.specs.Bits.{IsValid, StandsFor, is_below, all_of, unknown, bits_cut}
 use Rattle.kc_bits.specs.BitsLaws.{bits_laws, below_facts, same_bits, and_self}
 use Rattle.kc_words.specs.declared.width.Width.TheVariants.{Long}
 use Rattle.kc_bits.proofs.Cut.{cut_apart, cut_sound, cut_monotone}
@@ -13,13 +12,12 @@ use Rattle.kc_bits.proofs.Masks.{ones-unknown}
 use Rattle.kc_bits.proofs.Whole.{all_stands, known_only}
 use Rattle.std.proofs.lemmas.Nat.{and_le_l}
 use Rattle.kc_value.specs.AbsValue.{AbsValue}
-use Rattle.kc_value.specs.Place.{HasPlace, place_bit, LiesIn}
+use Rattle.kc_value.specs.Place.{HasPlace, place_bit}
 use Rattle.kc_value.specs.Value.{Represents, all_places, value_below}
 use Rattle.kc_value.specs.ValueLaws.{value_facts, value_from, has_all}
 use Rattle.kc_value.specs.SymbolLaws.{below_same}
 use Rattle.kc_value.specs.Made.{IsPlace, constant, of_bits, derived, derived_from, low}
 use Rattle.kc_value.specs.declared.env.ValueEnv.{ValueEnv}
-use Rattle.kc_value.specs.declared.symbol.Sym.TheVariants.{Plain}
 
 pub constant_stands : (n : ℕ) (place : Option ℕ) (env : ValueEnv) → n < 2 ^ 64 → HasPlace env.stacks place n → Represents (constant n place) env n
 constant_stands n place env h at = record { symbol = tt; bits = all_stands n h; place = (place, at, bit_at-pow_same (place_bit place)) }
@@ -43,14 +41,14 @@ of_bits_stands b place env n s at = record {
 derived_cases : (place : ℕ → Option ℕ) (b : KnownBits) →
     ((unknown b ≡ 0) × (derived place b ≡ constant b.ones (place b.ones))) ⊎ ((unknown b ≡ 0 → ⊥) × (derived place b ≡ of_bits b))
 derived_cases place b = elim (cases_eq (unknown b) 0) [
-    inl e ↦ inl (e, ap (λ (t : Bool). derived_from place b (cond t (Some b.ones) None)) (eq-eqb (unknown b) 0 e))
+  | inl e ↦ inl (e, ap (λ (t : Bool). derived_from place b (cond t (Some b.ones) None)) (eq-eqb (unknown b) 0 e))
   | inr e ↦ inr (e, ap (λ (t : Bool). derived_from place b (cond t (Some b.ones) None)) (ne_eqb (unknown b) 0 e))
 ]
 
 pub derived_stands : (place : ℕ → Option ℕ) (b : KnownBits) (env : ValueEnv) (n : ℕ) →
     IsValid b → n < 2 ^ 64 → StandsFor b n → HasPlace env.stacks (place n) n → Represents (derived place b) env n
 derived_stands place b env n h fits s at = elim (derived_cases place b) [
-    inl p ↦
+  | inl p ↦
       let one : n ≡ b.ones = known_only b n h fits p.0 s in
       let whole : Represents (constant n (place n)) env n = constant_stands n (place n) env fits at in
       let there = subst (λ (m : ℕ). Represents (constant m (place m)) env n) one whole in
@@ -84,20 +82,20 @@ value_refl v w h e = ap (λ (u : AbsValue). value_below u w) e ∙ value_from w 
 pub derived_grows : (place : ℕ → Option ℕ) (a b : KnownBits) → ((n : ℕ) → IsPlace (place n)) → IsValid a → IsValid b → is_below a b ≡ true →
     value_below (derived place a) (derived place b) ≡ true
 derived_grows place a b places ha hb below = elim (derived_cases place b) [
-    inl q ↦
+  | inl q ↦
       let same : a ≡ b = below_whole a b ha hb below q.0 in
       let valid : IsValid (derived place b).bits = subst (λ (v : AbsValue). IsValid v.bits) (sym q.1) (subst IsValid (sym (whole_is b hb q.0)) hb) in
       value_refl (derived place a) (derived place b) valid (ap (derived place) same)
   | inr q ↦
       let goal : AbsValue → Bool = λ v. value_below v (of_bits b) in
       let made : goal (derived place a) ≡ true =
-        elim (derived_cases place a) [
-          inl p ↦
+      elim (derived_cases place a) [
+        | inl p ↦
             ap goal p.1
             ∙ value_from (constant a.ones (place a.ones)) (of_bits b) refl (ap (λ (c : KnownBits). is_below c b) (whole_is a ha p.0) ∙ below)
-              (has_all (2 ^ place_bit (place a.ones)) (pow_below (place_bit (place a.ones)) 17 (bit_of_place (place a.ones) (places a.ones))))
+            (has_all (2 ^ place_bit (place a.ones)) (pow_below (place_bit (place a.ones)) 17 (bit_of_place (place a.ones) (places a.ones))))
         | inr p ↦ ap goal p.1 ∙ value_from (of_bits a) (of_bits b) refl below (and_self all_places)
-        ] in
+      ] in
       ap (value_below (derived place a)) q.1 ∙ made
 ]
 

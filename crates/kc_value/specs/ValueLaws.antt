@@ -1,16 +1,16 @@
 -- The laws of values: the `Domain` and the `Meaning` of `Value` cite these.
-use Rattle.std.proofs.Common.{◌≡◌, ℕ, ◌+◌, ◌-◌, ◌%◌, ◌^◌, ◌<◌, ◌≤◌, min, max, Bool, true, ◌&&◌, ◌==◌, bit_and, bit_or, refl, sym, ap, ◌∙◌, arith, subst, inl, inr, Option, lit<}
+use Rattle.std.proofs.Common.{◌≡◌, ℕ, ◌^◌, ◌<◌, ◌≤◌, min, true, ◌&&◌, bit_and, bit_or, refl, sym, ap, ◌∙◌, arith, subst, inl, inr, lit<}
 use Rattle.std.proofs.lemmas.Bool.{and_parts, and_from, eqb-true, eq-eqb}
 use Rattle.std.proofs.lemmas.Nat.{and_comm, and_mask, and_le_l, or_lt}
-use Rattle.std.proofs.lemmas.Nat.Bits.{same_from_bits, bit_at_and, bit_at_or, bit_at-lt}
+use Rattle.std.proofs.lemmas.Nat.Bits.{same_from_bits, bit_at_and, bit_at_or}
 use Rattle.std.proofs.Math.Nat.{mod-eq_of_lt}
 use Rattle.std.specs.Int.{bit_at}
 use Rattle.kc_lattice.specs.Laws.{Laws, AllAlike}
-use Rattle.kc_bits.specs.Bits.{is_below, bits_rank, nothing_known}
+use Rattle.kc_bits.specs.Bits.{is_below, bits_rank}
 use Rattle.kc_bits.specs.BitsLaws.{bits_laws, bits_grow, Has, has_bit, has_trans, has_antisym, and_self}
 use Rattle.kc_value.specs.AbsValue.{AbsValue}
-use Rattle.kc_value.specs.Place.{LiesIn, HasPlace, place_bit}
-use Rattle.kc_value.specs.Symbol.{Names, is_sym_below, sym_joined, sym_rank}
+use Rattle.kc_value.specs.Place.{place_bit}
+use Rattle.kc_value.specs.Symbol.{Names, is_sym_below, sym_rank}
 use Rattle.kc_value.specs.SymbolLaws.{below_cases, below_plain, below_same, sym_trans, sym_antisym, sym_left, sym_right, sym_least, sym_joined_fits, sym_falls, sym_tied}
 use Rattle.kc_value.specs.Value.{IsValidValue, is_subset, value_below, value_joined, all_places, value_top, value_rank, Represents}
 use Rattle.kc_value.specs.declared.env.ValueEnv.{ValueEnv}
@@ -27,9 +27,9 @@ or_right x y = same_from_bits (bit_and (bit_or x y) y) y (λ i. bit_at_and (bit_
 
 or_least : (x y z : ℕ) → Has z x → Has z y → Has z (bit_or x y)
 or_least x y z h k = same_from_bits (bit_and z (bit_or x y)) (bit_or x y) (λ i.
-  let e : min (bit_at z i) (bit_at x i) ≡ bit_at x i = sym (bit_at_and z x i) ∙ ap (λ (v : ℕ). bit_at v i) h in
-  let f : min (bit_at z i) (bit_at y i) ≡ bit_at y i = sym (bit_at_and z y i) ∙ ap (λ (v : ℕ). bit_at v i) k in
-  bit_at_and z (bit_or x y) i ∙ omega (arith, bit_at_or x y i, e, f))
+    let e : min (bit_at z i) (bit_at x i) ≡ bit_at x i = sym (bit_at_and z x i) ∙ ap (λ (v : ℕ). bit_at v i) h in
+    let f : min (bit_at z i) (bit_at y i) ≡ bit_at y i = sym (bit_at_and z y i) ∙ ap (λ (v : ℕ). bit_at v i) k in
+    bit_at_and z (bit_or x y) i ∙ omega (arith, bit_at_or x y i, e, f))
 
 pub has_all : (x : ℕ) → x < 2 ^ 17 → Has all_places x
 has_all x h = and_comm all_places x ∙ and_mask x 17 ∙ mod-eq_of_lt h
@@ -118,13 +118,13 @@ value_laws = record {
   below_antisym = value_antisym;
   join_valid = λ x y hx hy h. value_join_valid x y hx hy;
   join_left = λ x y hx hy h.
-    value_from x (value_joined x y) (sym_left x.sym y.sym) (bits_laws.join_left x.bits y.bits hx.bits_fit hy.bits_fit tt) (or_left x.stacks y.stacks);
+      value_from x (value_joined x y) (sym_left x.sym y.sym) (bits_laws.join_left x.bits y.bits hx.bits_fit hy.bits_fit tt) (or_left x.stacks y.stacks);
   join_right = λ x y hx hy h.
-    value_from y (value_joined x y) (sym_right x.sym y.sym) (bits_laws.join_right x.bits y.bits hx.bits_fit hy.bits_fit tt) (or_right x.stacks y.stacks);
+      value_from y (value_joined x y) (sym_right x.sym y.sym) (bits_laws.join_right x.bits y.bits hx.bits_fit hy.bits_fit tt) (or_right x.stacks y.stacks);
   join_least = λ x y z hx hy hz h k l. value_least x y z hx hy hz k l;
   top_valid = λ x h. record { sym_fits = tt; bits_fit = bits_laws.top_valid x.bits h.bits_fit; stacks_fit = lit< tt };
   top_above = λ x y hx hy h.
-    value_from y value_top (below_plain y.sym Plain refl) (bits_laws.top_above x.bits y.bits hx.bits_fit hy.bits_fit tt) (has_all y.stacks hy.stacks_fit);
+      value_from y value_top (below_plain y.sym Plain refl) (bits_laws.top_above x.bits y.bits hx.bits_fit hy.bits_fit tt) (has_all y.stacks hy.stacks_fit);
   rank_falls = λ x y hx hy h. let f = value_falls x y hx hy h in omega (arith, f.0, f.1, f.2);
   rank_tied = value_tied;
 }
@@ -133,7 +133,7 @@ value_laws = record {
 
 pub names_grow : (s t : Sym) (env : ValueEnv) (n : ℕ) → is_sym_below s t ≡ true → Names s env n → Names t env n
 names_grow s t env n h named = elim (below_cases s t h) [
-  inl p ↦ subst (λ (u : Sym). Names u env n) (sym p) tt
+  | inl p ↦ subst (λ (u : Sym). Names u env n) (sym p) tt
   | inr e ↦ subst (λ (u : Sym). Names u env n) e named
 ]
 

@@ -4,6 +4,8 @@
 mod env;
 mod made;
 mod symbol;
+#[cfg(test)]
+mod tests;
 mod value;
 
 pub use env::ValueEnv;

@@ -6,18 +6,28 @@ ghost use Rattle.kc_words.specs.Flags.{cut};
 ghost use Rattle.kc_words.specs.declared.width.Width.TheVariants.{Long};
 ghost use Rattle.kc_value.specs.Place.{HasPlace, place_bit};
 ghost use Rattle.kc_value.specs.AbsValue.{AbsValue};
-ghost use Rattle.kc_value.specs.Value.{Represents, IsValidValue, value_below};
+ghost use Rattle.kc_value.specs.Value.{Represents, value_below, value_top};
 ghost use Rattle.kc_value.specs.declared.env.ValueEnv.{ValueEnv as Env};
 ghost use Rattle.kc_value.specs.Made.{IsPlace, IsPlaceOf, constant, of_bits, derived, plain, low_bits, low, DerivedStands, DerivedGrows, LowStands, LowGrows};
 
+use crate::symbol::Sym;
+use crate::value::{ALL_PLACES, Value};
 use kc_bits::Bits;
 use kc_lattice::Domain;
 use kc_words::Width;
 
-use crate::symbol::Sym;
-use crate::value::{ALL_PLACES, Value};
-
 impl Value {
+    /// Nothing known: no symbol, no bit, and any place.
+    pub fn top() -> Value
+        ensures { result ≡ value_top }
+    {
+        Value {
+            sym: Sym::Plain,
+            bits: Bits { zeros: 0, ones: 0 },
+            stacks: ALL_PLACES,
+        }
+    }
+
     /// The number `n`, which lies in this stack, or in none.
     pub fn constant(n: u64, stack: Option<u8>) -> Value
         requires { IsPlace stack }

@@ -43,7 +43,11 @@ impl Sym {
     pub(crate) fn joined(self, other: Sym) -> Sym
         ensures { result ≡ sym_joined self other }
     {
-        if self.is_same(other) { self } else { Sym::Plain }
+        if self.is_same(other) {
+            self
+        } else {
+            Sym::Plain
+        }
     }
 
     pub(crate) fn names(self, env: &ValueEnv, n: u64) -> bool

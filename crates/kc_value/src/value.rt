@@ -6,14 +6,12 @@ ghost use Rattle.kc_value.specs.Place.{LiesIn};
 ghost use Rattle.kc_value.specs.Value.{IsValidValue, value_below, value_joined, value_top, value_rank, Represents};
 ghost use Rattle.kc_value.specs.ValueLaws.{value_laws, value_grows};
 
-use std::marker::Model;
-
+use crate::env::ValueEnv;
+use crate::symbol::Sym;
 use kc_bits::Bits;
 use kc_lattice::{Domain, Meaning};
 use kc_words::Span;
-
-use crate::env::ValueEnv;
-use crate::symbol::Sym;
+use std::marker::Model;
 
 // Each of the 16 stacks, and outside.
 pub(crate) const ALL_PLACES: u32 = 0x1_FFFF;
