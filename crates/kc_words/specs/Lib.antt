@@ -1,3 +1,5 @@
 pub mod Range
 pub mod Span
 pub mod LittleEndian
+pub mod Flags
+pub mod Sign

@@ -1,0 +1,8 @@
+//! Known bits of 64-bit words, with logic, sums and differences that are sound and monotone.
+#![tactic(auto)]
+
+mod bits;
+#[cfg(test)]
+mod tests;
+
+pub use bits::Bits;

@@ -1,0 +1,5 @@
+pub mod Laws
+pub mod Pair
+pub mod Rows
+pub mod PairLaws
+pub mod RowLaws
