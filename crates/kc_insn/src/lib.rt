@@ -2,5 +2,7 @@
 #![tactic(auto)]
 
 mod insn;
+mod rex;
 
 pub use insn::{AluOp, Base, BitOp, Insn, Mem, Place, Reg, Source};
+pub use rex::Rex;
