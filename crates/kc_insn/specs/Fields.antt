@@ -1,10 +1,9 @@
 -- The fields of an instruction's bytes: Intel SDM vol. 2, "Instruction Format".
-use Rattle.std.specs.Prelude.{◌≡◌, ◌≢◌, ℕ, zero, suc, ◌+◌, ◌*◌, ◌%◌, ◌^◌, ◌<◌, Bool, true, false, ◌==◌, if◌then◌else◌, List, [], ◌∷◌, length, Option, Some, None, ℤ, pos}
+use Rattle.std.specs.Prelude.{◌≡◌, ◌≢◌, ℕ, zero, suc, ◌+◌, ◌*◌, ◌%◌, ◌^◌, ◌<◌, Bool, true, false, ◌==◌, ◌&&◌, if◌then◌else◌, List, [], ◌∷◌, Option, Some, None, ℤ, pos}
 use Rattle.std.specs.Int.{w8, w32, w64, cast_signed, cast_unsigned}
 use Rattle.kc_words.specs.declared.width.Width.{Width}
 use Rattle.kc_words.specs.declared.width.Width.TheVariants.{Byte, Long, Quad}
-use Rattle.kc_words.specs.LittleEndian.{little_endian}
-use Rattle.kc_reading.specs.Reading.{AreBytes}
+use Rattle.kc_reading.specs.Reading.{IsNumber}
 use Rattle.kc_insn.specs.declared.insn.Reg.{Reg}
 use Rattle.kc_insn.specs.declared.insn.Base.{Base}
 use Rattle.kc_insn.specs.declared.insn.Base.TheVariants as base
@@ -57,11 +56,7 @@ extended bit n = register (worth bit 8 + n)
 abbrev pub width_of : Option Rex → Width
 width_of rex = if w_bit rex then Quad else Long
 
--- ---- numbers in the bytes, the least significant byte first
-
--- n bytes that stand for the number v
-abbrev pub IsNumber : ℕ → List ℕ → ℕ → Type 0
-IsNumber n bytes v = (length bytes ≡ n) × AreBytes bytes × (v ≡ little_endian bytes)
+-- ---- numbers in the bytes
 
 -- n bytes that stand for a signed number; no bytes stand for 0
 abbrev pub signed : ℕ → ℕ → ℤ
@@ -100,13 +95,10 @@ target next z = (next + cast_unsigned w64 z) % 2 ^ 64
 
 -- the bytes of the displacement by mod, and where field 5 with mod 0 stands for no base register
 abbrev pub disp_bytes : ℕ → ℕ → ℕ
-disp_bytes zero field = if field == 5 then 4 else 0
-disp_bytes (suc zero) field = 1
-disp_bytes (suc (suc mode)) field = 4
+disp_bytes mode field = if mode == 0 then (if field == 5 then 4 else 0) else if mode == 1 then 1 else 4
 
 abbrev pub base_of : Base → Option Rex → ℕ → ℕ → Base
-base_of special rex zero field = if field == 5 then special else base.Reg (extended (b_bit rex) field)
-base_of special rex (suc mode) field = base.Reg (extended (b_bit rex) field)
+base_of special rex mode field = if mode == 0 && field == 5 then special else base.Reg (extended (b_bit rex) field)
 
 -- index 4 without REX.X is no index
 abbrev pub index_of : Option Rex → ℕ → ℕ → Option (Reg × ℕ)

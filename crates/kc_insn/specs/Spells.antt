@@ -5,6 +5,7 @@ use Rattle.std.specs.Prelude.{◌≡◌, ℕ, ◌+◌, ◌<◌, ◌≤◌, Bool,
 use Rattle.std.specs.Int.{w64, cast_signed}
 use Rattle.kc_words.specs.declared.width.Width.{Width}
 use Rattle.kc_words.specs.declared.width.Width.TheVariants.{Byte, Quad}
+use Rattle.kc_reading.specs.Reading.{IsNumber}
 use Rattle.kc_insn.specs.declared.insn.Mem.{Mem}
 use Rattle.kc_insn.specs.declared.insn.Reg.{Reg}
 use Rattle.kc_insn.specs.declared.insn.Place.{Place}
@@ -15,7 +16,7 @@ use Rattle.kc_insn.specs.declared.insn.BitOp.{BitOp}
 use Rattle.kc_insn.specs.declared.insn.Insn.{Insn}
 use Rattle.kc_insn.specs.declared.insn.Insn.TheVariants.{Nop, Mov, Lea, Push, Test, Bit}
 use Rattle.kc_insn.specs.declared.rex.Rex.{Rex}
-use Rattle.kc_insn.specs.Fields.{worth, IsRex, w_bit, r_bit, b_bit, register, extended, width_of, IsNumber, IsSigned, ib, id, size_bytes, IsImmediate, target, IsOperand}
+use Rattle.kc_insn.specs.Fields.{worth, IsRex, w_bit, r_bit, b_bit, register, extended, width_of, IsSigned, ib, id, size_bytes, IsImmediate, target, IsOperand}
 use Rattle.kc_insn.specs.Table.{Form, plain, plain_w, last_byte, opcode_register, register_imm, rm_reg, reg_rm, address, rm_imm, rm_byte_imm, rm_bit, rm_quad, rm_register, rm_register_w, rm_unused, imm_quad, rax_imm, al_imm, relative, lookup, one_byte, two_byte, two_byte_f3}
 
 -- ---- which prefixes a form takes
