@@ -23,6 +23,12 @@ abbrev pub Gives : {X Y : Type 0} → (X → Y) → Result X DecodeFault → Res
 Gives view (Ok x) read = read ≡ Ok (view x)
 Gives view (Err e) read = read ≡ Err e
 
+-- bytes are missing
+abbrev pub is_short : DecodeFault → Bool
+is_short Short = true
+is_short Unknown = false
+is_short TooLong = false
+
 -- ---- the operand rm
 
 abbrev pub mode_field : ℕ → ℕ

@@ -8,6 +8,8 @@ mod form;
 mod immediate;
 mod operand;
 mod prefixes;
+mod reading;
 mod table;
+mod tail;
 
 pub use fault::DecodeFault;

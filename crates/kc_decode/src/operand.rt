@@ -1,9 +1,8 @@
 //! ModRM, SIB and displacement in 64-bit mode (Intel SDM vol. 2, "ModR/M and SIB Bytes").
 
-ghost use Rattle.std.specs.Prelude.{◌≡◌, ◌<◌, ◌^◌, is_some, option_map};
+ghost use Rattle.std.specs.Prelude.{◌≡◌, ◌<◌, ◌^◌, is_some, option_map, IfOk};
 ghost use Rattle.kc_insn.specs.Fields.{disp_bytes, base_of as memory_base, index_of as sib_index};
 ghost use Rattle.kc_insn.specs.Table.{alu_of, bit_of};
-ghost use Rattle.kc_insn.specs.declared.insn.Source.TheVariants.{Imm};
 ghost use Rattle.kc_decode.specs.Views.{disp_of, form_of, group_of};
 ghost use Rattle.kc_decode.specs.Reading.{Gives, disp_at, sib_at, no_sib_at, memory_at, rm_at, operand_at, mode_field, reg_field, rm_field, takes_modrm as form_takes};
 
@@ -184,18 +183,18 @@ fn group_has(group: Group, reg: u8) -> bool
 }
 
 /// The instruction of a group by the reg field.
-pub fn group_insn(group: Group, reg: u8, w: Width, rm: Place, value: i64) -> Option<Insn>
-    ensures { result ≡ option_map (λ make. make w rm (Imm value)) (group_of group reg) }
+pub fn group_insn(group: Group, reg: u8, w: Width, rm: Place, source: Source) -> Option<Insn>
+    ensures { result ≡ option_map (λ make. make w rm source) (group_of group reg) }
 {
     match group {
         Group::Mov => {
-            if reg == 0 { Some(Insn::Mov(w, rm, Source::Imm(value))) } else { None }
+            if reg == 0 { Some(Insn::Mov(w, rm, source)) } else { None }
         }
         Group::Test => {
-            if reg == 0 { Some(Insn::Test(w, rm, Source::Imm(value))) } else { None }
+            if reg == 0 { Some(Insn::Test(w, rm, source)) } else { None }
         }
         Group::Alu => match alu_op(reg) {
-            Some(op) => Some(Insn::Alu(op, w, rm, Source::Imm(value))),
+            Some(op) => Some(Insn::Alu(op, w, rm, source)),
             None => None,
         },
     }
@@ -235,7 +234,8 @@ pub fn operand(
     head: Head,
     bytes: &[u8],
 ) -> Result<((u8, Place), &[u8]), DecodeFault>
-    ensures { Gives (λ x. (x.0, x.1.now)) result (operand_at (form_of form) head.gs head.rex bytes.now) }
+    ensures read { Gives (λ x. (x.0, x.1.now)) result (operand_at (form_of form) head.gs head.rex bytes.now) }
+    ensures field { IfOk result (λ x. x.0.0 < 8) }
 {
     let (modrm, rest) = byte(bytes)?;
     let mode = modrm / 64;

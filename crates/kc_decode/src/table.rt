@@ -1,8 +1,8 @@
 //! The opcodes of the grammar (Intel SDM vol. 2, "Opcode Map").
 
-ghost use Rattle.std.specs.Prelude.{◌≡◌, option_map};
+ghost use Rattle.std.specs.Prelude.{◌≡◌, option_map, IfSome};
 ghost use Rattle.kc_insn.specs.Table.{lookup, one_byte as one_byte_rows, two_byte as two_byte_rows, two_byte_f3};
-ghost use Rattle.kc_decode.specs.Views.{form_of};
+ghost use Rattle.kc_decode.specs.Views.{form_of, IsInRange};
 
 use crate::form::{Form, Group, Jump, Last, Pair, Size};
 use kc_insn::{AluOp, Insn};
@@ -10,7 +10,8 @@ use kc_insn::{AluOp, Insn};
 /// The form behind an opcode of one byte.
 #[tactic(auto, unfolding(kc_insn::specs::Table::one_byte))]
 pub fn one_byte(op: u8) -> Option<Form>
-    ensures { option_map form_of result ≡ lookup op one_byte_rows }
+    ensures row { option_map form_of result ≡ lookup op one_byte_rows }
+    ensures range { IfSome result IsInRange }
 {
     Some(match op {
         0x89 => Form::RmReg(Pair::Mov),
@@ -63,7 +64,8 @@ pub fn one_byte(op: u8) -> Option<Form>
 /// The form behind 0F and this byte.
 #[tactic(auto, unfolding(kc_insn::specs::Table::two_byte))]
 pub fn two_byte(op: u8) -> Option<Form>
-    ensures { option_map form_of result ≡ lookup op two_byte_rows }
+    ensures row { option_map form_of result ≡ lookup op two_byte_rows }
+    ensures range { IfSome result IsInRange }
 {
     Some(match op {
         0xBA => Form::Bit,
@@ -84,7 +86,8 @@ pub fn two_byte(op: u8) -> Option<Form>
 /// The form behind F3, REX, 0F and this byte.
 #[tactic(auto, unfolding(kc_insn::specs::Table::two_byte_f3))]
 pub fn f3_two_byte(op: u8) -> Option<Form>
-    ensures { option_map form_of result ≡ lookup op two_byte_f3 }
+    ensures row { option_map form_of result ≡ lookup op two_byte_f3 }
+    ensures range { IfSome result IsInRange }
 {
     match op {
         0xAE => Some(Form::GsBase),

@@ -212,3 +212,9 @@ module _ {E : Type 0} (short : E → Bool) where
       (exact-map (bytes_at missing n) (AreManyBytes n) little_endian (exact-bytes missing is_short n))
       (λ bs v h. (h.1.0, h.1.1, h.2 ∙ ap little_endian h.1.2))
       (λ bs v h. (bs, (h.0, h.1, refl), h.2))
+
+  -- a test of what was read before, where both branches are exact for one grammar
+  pub exact-cases : {A : Type 0} (test : Bool) (read other : List ℕ → Result (A × List ℕ) E) (S : List ℕ → A → Type 0)
+    → (test ≡ true → Exact short read S) → (test ≡ false → Exact short other S) → Exact short (λ bs. cond test (read bs) (other bs)) S
+  exact-cases true read other S then_exact else_exact = then_exact refl
+  exact-cases false read other S then_exact else_exact = else_exact refl
