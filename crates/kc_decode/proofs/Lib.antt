@@ -1,3 +1,5 @@
 pub mod Group
 pub mod Operands
 pub mod Tails
+pub mod Rows
+pub mod Drafts

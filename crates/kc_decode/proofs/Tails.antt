@@ -29,11 +29,11 @@ use Rattle.kc_decode.proofs.Operands.{exact-disp, exact-imm, exact-operand, Take
 
 -- ---- tests
 
-and-left : (a b : Bool) → (a && b) ≡ true → a ≡ true
+pub and-left : (a b : Bool) → (a && b) ≡ true → a ≡ true
 and-left true b e = refl
 and-left false b e = absurd cc
 
-and-right : (a b : Bool) → (a && b) ≡ true → b ≡ true
+pub and-right : (a b : Bool) → (a && b) ≡ true → b ≡ true
 and-right true b e = e
 and-right false b e = absurd cc
 
@@ -58,7 +58,7 @@ is_live form = true
 
 -- a memory operand that stands under all prefixes: a SIB byte 0
 module _ (gs : Bool) (rex : Option Rex) where
-  abbrev zero_mem : Mem
+  abbrev pub zero_mem : Mem
   zero_mem = record { gs = gs; base = base_of base.Absent rex 0 0; index = index_of rex 0 0; disp = signed 0 (zero_number 0) }
 
   zero-rm : IsRm gs rex 0 4 (0 ∷ []) (place.Mem zero_mem)
@@ -68,7 +68,7 @@ module _ (gs : Bool) (rex : Option Rex) where
   memory_operand form n lt takes = (0, n, 4, 0 ∷ [], place.Mem zero_mem, lit< tt, lt, lit< tt, takes, zero-rm)
 
   -- one that is spelled, with an immediate behind it
-  zero-operand : (n : ℕ) → n < 8 → IsOperand gs rex n ((8 * n + 4) ∷ 0 ∷ []) (place.Mem zero_mem)
+  pub zero-operand : (n : ℕ) → n < 8 → IsOperand gs rex n ((8 * n + 4) ∷ 0 ∷ []) (place.Mem zero_mem)
   zero-operand n lt = record { mode = 0; rm = 4; rest = 0 ∷ []; mode_range = lit< tt; reg_range = lt; rm_range = lit< tt; modrm = ap (λ (k : ℕ). k ∷ 0 ∷ []) (omega arith); operand_is = zero-rm }
 
 -- ---- what is made of what was read
@@ -197,7 +197,7 @@ exact-rm_quad gs rex n make live =
       (with-operand gs rex (rm_quad n make) (memory_operand gs rex (rm_quad n make) n (ltb-true n 8 live) (eq-eqb n n refl)) g)
       (λ bs d h. (h.0.1, subst (λ (k : ℕ). IsOperand gs rex k bs h.0.1) (eqb-true h.0.0 n h.1.1) h.1.0, h.2)) (λ bs d h. ((n, h.0), (h.1, eq-eqb n n refl), h.2))
 
-exact-rm_unused : (gs : Bool) (rex : Option Rex) → Exact is_short (tail_at rm_unused gs rex) (IsTail rm_unused gs rex)
+pub exact-rm_unused : (gs : Bool) (rex : Option Rex) → Exact is_short (tail_at rm_unused gs rex) (IsTail rm_unused gs rex)
 unfolding tail_at
 exact-rm_unused gs rex =
     let g : ℕ × Place → Draft = λ o. whole insn.Nop in
