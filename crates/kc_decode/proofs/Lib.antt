@@ -3,3 +3,4 @@ pub mod Operands
 pub mod Tails
 pub mod Rows
 pub mod Drafts
+pub mod BehindF3
