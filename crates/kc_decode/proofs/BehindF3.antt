@@ -22,7 +22,7 @@ use Rattle.kc_decode.proofs.Drafts.{RowTail, exact-row, Opened, one, two, apart-
 
 -- ---- a byte that is wanted
 
-exact-wanted : {A : Type 0} (key : ℕ) → key < 256 → (read : List ℕ → Result (A × List ℕ) DecodeFault) (S : List ℕ → A → Type 0) → Exact is_short read S → (back : List ℕ) × (y : A) × S back y
+pub exact-wanted : {A : Type 0} (key : ℕ) → key < 256 → (read : List ℕ → Result (A × List ℕ) DecodeFault) (S : List ℕ → A → Type 0) → Exact is_short read S → (back : List ℕ) × (y : A) × S back y
     → Exact is_short (λ bs. byte_at Short bs >>= λ b. cond (eqb b.0 key) (read b.1) (Err Unknown)) (ByteThen (λ b rest x. (b ≡ key) × S rest x))
 exact-wanted {A} key below read S ex some =
     let T : ℕ → List ℕ → A → Type 0 = λ b rest x. (b ≡ key) × S rest x in

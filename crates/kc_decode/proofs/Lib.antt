@@ -4,3 +4,4 @@ pub mod Tails
 pub mod Rows
 pub mod Drafts
 pub mod BehindF3
+pub mod Nops
