@@ -5,3 +5,4 @@ pub mod Rows
 pub mod Drafts
 pub mod BehindF3
 pub mod Nops
+pub mod Whole
