@@ -6,3 +6,4 @@ pub mod Drafts
 pub mod BehindF3
 pub mod Nops
 pub mod Whole
+pub mod Answers

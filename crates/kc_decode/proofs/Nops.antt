@@ -26,27 +26,27 @@ pub data NopSpelled (bytes : List ℕ) (d : Draft) : Type 0 where
   nop : (rex : Option Rex) (rex_bytes tail : List ℕ) → bytes ≡ rex_bytes ++ 0x0F ∷ 0x1F ∷ tail
     → IsRex rex_bytes rex → permits rm_unused false rex ≡ true → IsTail rm_unused false rex tail d → NopSpelled bytes d
 
-abbrev NopTail : Option Rex → List ℕ → Draft → Type 0
+abbrev pub NopTail : Option Rex → List ℕ → Draft → Type 0
 NopTail rex = ByteThen (λ op back d. (op ≡ 0x1F) × IsTail rm_unused false rex back d)
 
-zero-nop : (rex : Option Rex) → (back : List ℕ) × (d : Draft) × IsTail rm_unused false rex back d
+pub zero-nop : (rex : Option Rex) → (back : List ℕ) × (d : Draft) × IsTail rm_unused false rex back d
 zero-nop rex = ((8 * 0 + 4) ∷ 0 ∷ [], whole insn.Nop, (place.Mem (zero_mem false rex), zero-operand false rex 0 (lit< tt), refl))
 
-exact-nop_tail : (rex : Option Rex) → Exact is_short (nop_tail_at rex) (NopTail rex)
+pub exact-nop_tail : (rex : Option Rex) → Exact is_short (nop_tail_at rex) (NopTail rex)
 unfolding nop_tail_at
 exact-nop_tail rex = exact-wanted 0x1F (lit< tt) (tail_at rm_unused false rex) (IsTail rm_unused false rex) (exact-rm_unused false rex) (zero-nop rex)
 
-abbrev NopEscape : Rex → List ℕ → Draft → Type 0
+abbrev pub NopEscape : Rex → List ℕ → Draft → Type 0
 NopEscape rex = ByteThen (λ e back d. (e ≡ 0x0F) × NopTail (Some rex) back d)
 
-some-nop : (rex : Option Rex) → (back : List ℕ) × (d : Draft) × NopTail rex back d
+pub some-nop : (rex : Option Rex) → (back : List ℕ) × (d : Draft) × NopTail rex back d
 some-nop rex = let z = zero-nop rex in (0x1F ∷ z.0, z.1, (0x1F, z.0, lit< tt, (refl, z.2), refl))
 
-exact-nop_escape : (rex : Rex) → Exact is_short (nop_escape_at rex) (NopEscape rex)
+pub exact-nop_escape : (rex : Rex) → Exact is_short (nop_escape_at rex) (NopEscape rex)
 unfolding nop_escape_at
 exact-nop_escape rex = exact-wanted 0x0F (lit< tt) (nop_tail_at (Some rex)) (NopTail (Some rex)) (exact-nop_tail (Some rex)) (some-nop (Some rex))
 
-nop-permits : (w r x b : Bool) → (w || r) ≡ false → permits_rex rm_unused (Some (record { w = w; r = r; x = x; b = b })) ≡ true
+pub nop-permits : (w r x b : Bool) → (w || r) ≡ false → permits_rex rm_unused (Some (record { w = w; r = r; x = x; b = b })) ≡ true
 nop-permits true r x b h = absurd cc
 nop-permits false true x b h = absurd cc
 nop-permits false false true true h = refl
@@ -54,18 +54,18 @@ nop-permits false false true false h = refl
 nop-permits false false false true h = refl
 nop-permits false false false false h = refl
 
-nop-no_wr : (w r x b : Bool) → permits_rex rm_unused (Some (record { w = w; r = r; x = x; b = b })) ≡ true → (w || r) ≡ false
+pub nop-no_wr : (w r x b : Bool) → permits_rex rm_unused (Some (record { w = w; r = r; x = x; b = b })) ≡ true → (w || r) ≡ false
 nop-no_wr true r x b h = absurd cc
 nop-no_wr false true x b h = absurd cc
 nop-no_wr false false x b h = refl
 
-nop-to : (b : ℕ) → is_rex b ≡ true → ((rex_of b).w || (rex_of b).r) ≡ false → (bs : List ℕ) (d : Draft) → NopEscape (rex_of b) bs d → NopSpelled (b ∷ bs) d
+pub nop-to : (b : ℕ) → is_rex b ≡ true → ((rex_of b).w || (rex_of b).r) ≡ false → (bs : List ℕ) (d : Draft) → NopEscape (rex_of b) bs d → NopSpelled (b ∷ bs) d
 nop-to b r wr bs d h =
     let k = h.3.1 in
     let eq : bs ≡ 0x0F ∷ 0x1F ∷ k.1 = h.4 ∙ ap (λ (t : ℕ). t ∷ h.1) h.3.0 ∙ ap (λ (t : List ℕ). 0x0F ∷ t) (k.4 ∙ ap (λ (t : ℕ). t ∷ k.1) k.3.0) in
     nop (Some (rex_of b)) (b ∷ []) k.1 (ap (λ (t : List ℕ). b ∷ t) eq) (rex-bytes b r) (nop-permits (rex_of b).w (rex_of b).r (rex_of b).x (rex_of b).b wr) k.3.1
 
-nop-back : (b : ℕ) → is_rex b ≡ true → (bs : List ℕ) (d : Draft) → NopSpelled (b ∷ bs) d → NopEscape (rex_of b) bs d × (((rex_of b).w || (rex_of b).r) ≡ false)
+pub nop-back : (b : ℕ) → is_rex b ≡ true → (bs : List ℕ) (d : Draft) → NopSpelled (b ∷ bs) d → NopEscape (rex_of b) bs d × (((rex_of b).w || (rex_of b).r) ≡ false)
 nop-back b r bs d (nop None rex_bytes tail eq is fits t) =
     let e = heads b 0x0F bs (0x1F ∷ tail) (eq ∙ ap (λ (x : List ℕ). x ++ 0x0F ∷ 0x1F ∷ tail) is) in
     let clash : true ≡ false = sym r ∙ ap is_rex e.0 in absurd cc
@@ -75,7 +75,7 @@ nop-back b r bs d (nop (Some rex) rex_bytes tail eq is fits t) =
     let t2 : IsTail rm_unused false (Some (rex_of b)) tail d = subst (λ (x : Rex). IsTail rm_unused false (Some x) tail d) (sym k.1) t in
     ((0x0F, 0x1F ∷ tail, lit< tt, (refl, (0x1F, tail, lit< tt, (refl, t2), refl)), e.1), ap (λ (x : Rex). x.w || x.r) k.1 ∙ nop-no_wr rex.w rex.r rex.x rex.b fits)
 
-nop-plain_back : (b : ℕ) → is_rex b ≡ false → (bs : List ℕ) (d : Draft) → NopSpelled (b ∷ bs) d → (b ≡ 0x0F) × NopTail None bs d
+pub nop-plain_back : (b : ℕ) → is_rex b ≡ false → (bs : List ℕ) (d : Draft) → NopSpelled (b ∷ bs) d → (b ≡ 0x0F) × NopTail None bs d
 nop-plain_back b r bs d (nop None rex_bytes tail eq is fits t) =
     let e = heads b 0x0F bs (0x1F ∷ tail) (eq ∙ ap (λ (x : List ℕ). x ++ 0x0F ∷ 0x1F ∷ tail) is) in
     (e.0, (0x1F, tail, lit< tt, (refl, t), e.1))
@@ -112,7 +112,7 @@ pub nop-empty : (d : Draft) → NopSpelled [] d → ⊥
 nop-empty d (nop None rex_bytes tail eq is fits t) = let e : [] ≡ 0x0F ∷ 0x1F ∷ tail = eq ∙ ap (λ (x : List ℕ). x ++ 0x0F ∷ 0x1F ∷ tail) is in cc
 nop-empty d (nop (Some rex) rex_bytes tail eq is fits t) = let e : [] ≡ rex_byte rex ∷ 0x0F ∷ 0x1F ∷ tail = eq ∙ ap (λ (x : List ℕ). x ++ 0x0F ∷ 0x1F ∷ tail) is in cc
 
-nop-split : (bs : List ℕ) (d : Draft) → NopSpelled bs d → ByteThen (λ b back y. NopSpelled (b ∷ back) y) bs d
+pub nop-split : (bs : List ℕ) (d : Draft) → NopSpelled bs d → ByteThen (λ b back y. NopSpelled (b ∷ back) y) bs d
 nop-split [] d h = absurd (nop-empty d h)
 nop-split (b ∷ bs) d h = (b, bs, elim (nop-first b bs d h) [ inl e ↦ omega arith | inr k ↦ omega (arith, k.1) ], h, refl)
 
@@ -133,10 +133,10 @@ abbrev pub Padded : List ℕ → Draft → Type 0
 Padded bs d = (n : ℕ) × (cs : Bool) × (rest : List ℕ) × (bs ≡ replicate n 0x66 ++ (cs_bytes cs ++ rest)) × NopSpelled rest d
 
 -- one more byte 66
-more-66 : (b : ℕ) → b ≡ 0x66 → (bs : List ℕ) (d : Draft) → Padded bs d → Padded (b ∷ bs) d
+pub more-66 : (b : ℕ) → b ≡ 0x66 → (bs : List ℕ) (d : Draft) → Padded bs d → Padded (b ∷ bs) d
 more-66 b is bs d h = (suc h.0, h.1, h.2, ap (λ (k : ℕ). k ∷ bs) is ∙ ap (λ (t : List ℕ). 0x66 ∷ t) h.3, h.4)
 
-nop-tests : (b : ℕ) (bs : List ℕ) (d : Draft) → NopSpelled (b ∷ bs) d → (eqb b 0x66 ≡ false) × (eqb b 0x2E ≡ false)
+pub nop-tests : (b : ℕ) (bs : List ℕ) (d : Draft) → NopSpelled (b ∷ bs) d → (eqb b 0x66 ≡ false) × (eqb b 0x2E ≡ false)
 nop-tests b bs d h = (go 0x66 (λ e. elim (nop-first b bs d h) [ inl k ↦ omega arith | inr k ↦ omega (arith, k.0, k.1) ]), go 0x2E (λ e. elim (nop-first b bs d h) [ inl k ↦ omega arith | inr k ↦ omega (arith, k.0, k.1) ]))
   where
     at : (key : ℕ) → (b ≡ key → ⊥) → (t : Bool) → eqb b key ≡ t → t ≡ false
@@ -145,7 +145,7 @@ nop-tests b bs d h = (go 0x66 (λ e. elim (nop-first b bs d h) [ inl k ↦ omega
     go : (key : ℕ) → (b ≡ key → ⊥) → eqb b key ≡ false
     go key other = at key other (eqb b key) refl
 
-padded-takes : (bs rest : List ℕ) (d : Draft) → AreBytes bs → padded_at bs ≡ Ok (d, rest) → (front : List ℕ) × Padded front d × (bs ≡ front ++ rest)
+pub padded-takes : (bs rest : List ℕ) (d : Draft) → AreBytes bs → padded_at bs ≡ Ok (d, rest) → (front : List ℕ) × Padded front d × (bs ≡ front ++ rest)
 unfolding padded_at
 padded-takes [] rest d fits h = absurd cc
 padded-takes (b ∷ bs) rest d fits h =
@@ -164,7 +164,7 @@ padded-takes (b ∷ bs) rest d fits h =
         ]
     ]
 
-padded-again : (n : ℕ) (cs : Bool) (rest more : List ℕ) (d : Draft) → NopSpelled rest d → padded_at ((replicate n 0x66 ++ (cs_bytes cs ++ rest)) ++ more) ≡ Ok (d, more)
+pub padded-again : (n : ℕ) (cs : Bool) (rest more : List ℕ) (d : Draft) → NopSpelled rest d → padded_at ((replicate n 0x66 ++ (cs_bytes cs ++ rest)) ++ more) ≡ Ok (d, more)
 unfolding padded_at
 padded-again (suc n) cs rest more d h = padded-again n cs rest more d h
 padded-again zero true rest more d h = exact-behind_2e.again rest more d h
@@ -173,7 +173,7 @@ padded-again zero false (b ∷ rest) more d h =
     let t = nop-tests b rest d h in
     rw (t.0, t.1) ((exact-nop b).again rest more d h)
 
-padded-refuses : (bs more : List ℕ) (e : DecodeFault) → AreBytes bs → padded_at bs ≡ Err e → is_short e ≡ false → padded_at (bs ++ more) ≡ Err e
+pub padded-refuses : (bs more : List ℕ) (e : DecodeFault) → AreBytes bs → padded_at bs ≡ Err e → is_short e ≡ false → padded_at (bs ++ more) ≡ Err e
 unfolding padded_at
 padded-refuses [] more e fits h s = let same : Short ≡ e = cc in let clash : true ≡ false = ap is_short same ∙ s in absurd cc
 padded-refuses (b ∷ bs) more e fits h s =
@@ -186,7 +186,7 @@ padded-refuses (b ∷ bs) more e fits h s =
         ]
     ]
 
-padded-completes : (bs : List ℕ) (e : DecodeFault) → AreBytes bs → padded_at bs ≡ Err e → is_short e ≡ true → (more : List ℕ) × (d : Draft) × (0 < length more) × Padded (bs ++ more) d
+pub padded-completes : (bs : List ℕ) (e : DecodeFault) → AreBytes bs → padded_at bs ≡ Err e → is_short e ≡ true → (more : List ℕ) × (d : Draft) × (0 < length more) × Padded (bs ++ more) d
 unfolding padded_at
 padded-completes [] e fits h s = let z = zero-nop_spelled in (0x0F ∷ z.0, z.1, omega arith, (0, false, 0x0F ∷ z.0, refl, z.2))
 padded-completes (b ∷ bs) e fits h s =
@@ -213,7 +213,7 @@ abbrev pub Behind66 : List ℕ → Draft → Type 0
 Behind66 bs d = ((bs ≡ 0x90 ∷ []) × (d ≡ whole insn.Nop)) ⊎ Padded bs d
 
 -- padding doesn't begin with 90
-padded-not_90 : (n : ℕ) (cs : Bool) (rest : List ℕ) (d : Draft) (b : ℕ) (bs : List ℕ) → NopSpelled rest d → b ∷ bs ≡ replicate n 0x66 ++ (cs_bytes cs ++ rest) → eqb b 0x90 ≡ false
+pub padded-not_90 : (n : ℕ) (cs : Bool) (rest : List ℕ) (d : Draft) (b : ℕ) (bs : List ℕ) → NopSpelled rest d → b ∷ bs ≡ replicate n 0x66 ++ (cs_bytes cs ++ rest) → eqb b 0x90 ≡ false
 padded-not_90 (suc n) cs rest d b bs h e = ap (λ (k : ℕ). eqb k 0x90) (heads b 0x66 bs (replicate n 0x66 ++ (cs_bytes cs ++ rest)) e).0
 padded-not_90 zero true rest d b bs h e = ap (λ (k : ℕ). eqb k 0x90) (heads b 0x2E bs rest e).0
 padded-not_90 zero false [] d b bs h e = absurd (nop-empty d h)
@@ -224,7 +224,7 @@ padded-not_90 zero false (c ∷ rest) d b bs h e =
     at false e k = refl
     at true e k = let is : b ≡ 0x90 = eqb-true b 0x90 e in absurd (elim k [ inl m ↦ omega arith | inr m ↦ omega arith ])
 
-behind_66-takes : (bs rest : List ℕ) (d : Draft) → AreBytes bs → behind_66_at bs ≡ Ok (d, rest) → (front : List ℕ) × Behind66 front d × (bs ≡ front ++ rest)
+pub behind_66-takes : (bs rest : List ℕ) (d : Draft) → AreBytes bs → behind_66_at bs ≡ Ok (d, rest) → (front : List ℕ) × Behind66 front d × (bs ≡ front ++ rest)
 unfolding behind_66_at
 behind_66-takes [] rest d fits h = absurd cc
 behind_66-takes (b ∷ bs) rest d fits h =
@@ -235,7 +235,7 @@ behind_66-takes (b ∷ bs) rest d fits h =
       | inr k ↦ let t = exact-padded.takes (b ∷ bs) rest d fits k.1 in (t.0, inr t.1, t.2)
     ]
 
-behind_66-padded : (front rest : List ℕ) (d : Draft) → Padded front d → behind_66_at (front ++ rest) ≡ Ok (d, rest)
+pub behind_66-padded : (front rest : List ℕ) (d : Draft) → Padded front d → behind_66_at (front ++ rest) ≡ Ok (d, rest)
 unfolding behind_66_at
 behind_66-padded [] rest d h = absurd (go h.0 h.1 h.2 h.3 h.4)
   where
@@ -247,12 +247,12 @@ behind_66-padded (b ∷ bs) rest d h =
     let test = padded-not_90 h.0 h.1 h.2 d b bs h.4 h.3 in
     rw test (exact-padded.again (b ∷ bs) rest d h)
 
-behind_66-again : (front rest : List ℕ) (d : Draft) → Behind66 front d → behind_66_at (front ++ rest) ≡ Ok (d, rest)
+pub behind_66-again : (front rest : List ℕ) (d : Draft) → Behind66 front d → behind_66_at (front ++ rest) ≡ Ok (d, rest)
 unfolding behind_66_at
 behind_66-again front rest d (inl h) = rw (h.0, h.1) refl
 behind_66-again front rest d (inr h) = behind_66-padded front rest d h
 
-behind_66-refuses : (bs more : List ℕ) (e : DecodeFault) → AreBytes bs → behind_66_at bs ≡ Err e → is_short e ≡ false → behind_66_at (bs ++ more) ≡ Err e
+pub behind_66-refuses : (bs more : List ℕ) (e : DecodeFault) → AreBytes bs → behind_66_at bs ≡ Err e → is_short e ≡ false → behind_66_at (bs ++ more) ≡ Err e
 unfolding behind_66_at
 behind_66-refuses [] more e fits h s = let same : Short ≡ e = cc in let clash : true ≡ false = ap is_short same ∙ s in absurd cc
 behind_66-refuses (b ∷ bs) more e fits h s =
@@ -261,7 +261,7 @@ behind_66-refuses (b ∷ bs) more e fits h s =
       | inr k ↦ let test = k.0 in rw test (exact-padded.refuses (b ∷ bs) more e fits k.1 s)
     ]
 
-behind_66-completes : (bs : List ℕ) (e : DecodeFault) → AreBytes bs → behind_66_at bs ≡ Err e → is_short e ≡ true → (more : List ℕ) × (d : Draft) × (0 < length more) × Behind66 (bs ++ more) d
+pub behind_66-completes : (bs : List ℕ) (e : DecodeFault) → AreBytes bs → behind_66_at bs ≡ Err e → is_short e ≡ true → (more : List ℕ) × (d : Draft) × (0 < length more) × Behind66 (bs ++ more) d
 unfolding behind_66_at
 behind_66-completes [] e fits h s = (0x90 ∷ [], whole insn.Nop, omega arith, inl (refl, refl))
 behind_66-completes (b ∷ bs) e fits h s =

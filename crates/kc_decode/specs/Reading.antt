@@ -1,5 +1,5 @@
 -- Reading an instruction from left to right, with the first fault that is met.
-use Rattle.std.specs.Prelude.{◌≡◌, ℕ, ◌*◌, ◌/◌, ◌%◌, Bool, true, false, not, ◌&&◌, ◌||◌, ◌==◌, nat_le, nat_lt, if◌then◌else◌, List, [], ◌∷◌, Option, Some, None, is_some, option_map, Result, Ok, Err, ℤ, pos}
+use Rattle.std.specs.Prelude.{◌≡◌, ℕ, ◌+◌, ◌-◌, ◌^◌, length, ◌*◌, ◌/◌, ◌%◌, Bool, true, false, not, ◌&&◌, ◌||◌, ◌==◌, nat_le, nat_lt, if◌then◌else◌, List, [], ◌∷◌, Option, Some, None, is_some, option_map, Result, Ok, Err, ℤ, pos}
 use Rattle.std.specs.Int.{w64, cast_signed}
 use Rattle.kc_words.specs.declared.width.Width.{Width}
 use Rattle.kc_words.specs.declared.width.Width.TheVariants.{Byte, Quad}
@@ -14,7 +14,7 @@ use Rattle.kc_insn.specs.declared.insn.Source.TheVariants as source
 use Rattle.kc_insn.specs.declared.rex.Rex.{Rex}
 use Rattle.kc_insn.specs.Fields.{w_bit, r_bit, x_bit, b_bit, register, extended, width_of, signed, Size, ib, id, size_bytes, immediate, disp_bytes, base_of, index_of}
 use Rattle.kc_insn.specs.Table.{Form, plain, plain_w, last_byte, opcode_register, register_imm, rm_reg, reg_rm, address, rm_imm, rm_byte_imm, rm_bit, rm_quad, rm_register, rm_register_w, rm_unused, imm_quad, rax_imm, al_imm, relative, lookup, one_byte, two_byte, two_byte_f3}
-use Rattle.kc_insn.specs.Spells.{permits, Draft, whole, jump}
+use Rattle.kc_insn.specs.Spells.{permits, Draft, whole, jump, resolve}
 use Rattle.kc_decode.specs.declared.fault.DecodeFault.{DecodeFault}
 use Rattle.kc_decode.specs.declared.fault.DecodeFault.TheVariants.{Short, Unknown, TooLong}
 
@@ -200,3 +200,56 @@ draft_at bs = byte_at Short bs >>= λ b.
     if b.0 == 0xF3 then f3_at b.1 else
     if b.0 == 0x66 then behind_66_at b.1 else
     if b.0 == 0x2E then behind_2e_at b.1 else plain_at false b.0 b.1
+
+-- ---- the bound of fifteen bytes: only padding can pass it
+
+-- the least number of bytes of an operand that begins so, where x says that it has a SIB byte
+abbrev pub least_sib : ℕ → List ℕ → ℕ
+least_sib mode [] = disp_bytes mode 0
+least_sib mode (s ∷ bs) = disp_bytes mode (rm_field s)
+
+abbrev pub least_operand : Bool → List ℕ → ℕ
+least_operand x [] = if x then 2 else 1
+least_operand x (m ∷ bs) =
+    if mode_field m == 3 then 1 else
+    if rm_field m == 4 then 2 + least_sib (mode_field m) bs else 1 + disp_bytes (mode_field m) (rm_field m)
+
+-- the same of what stands behind 0F, behind REX, and behind padding
+abbrev pub least_nop_tail : Bool → List ℕ → ℕ
+least_nop_tail x [] = 1 + least_operand x []
+least_nop_tail x (op ∷ bs) = 1 + least_operand x bs
+
+abbrev pub least_escape : Bool → List ℕ → ℕ
+least_escape x [] = 1 + least_nop_tail x []
+least_escape x (e ∷ bs) = 1 + least_nop_tail x bs
+
+abbrev pub least_nop : List ℕ → ℕ
+least_nop [] = 3
+least_nop (b ∷ bs) = if is_rex b then 1 + least_escape (rex_of b).x bs else 1 + least_nop_tail false bs
+
+unfoldable pub least_padded : List ℕ → ℕ
+least_padded [] = 3
+least_padded (b ∷ bs) = if b == 0x66 then 1 + least_padded bs else (if b == 0x2E then 1 + least_nop bs else least_nop (b ∷ bs))
+
+abbrev pub least_66 : List ℕ → ℕ
+least_66 [] = 1
+least_66 (b ∷ bs) = least_padded (b ∷ bs)
+
+-- whether an instruction that begins so may end within fifteen bytes
+unfoldable pub fits : List ℕ → Bool
+fits [] = true
+fits (b ∷ bs) =
+    if b == 0x66 then nat_le (1 + least_66 bs) 15 else
+    if b == 0x2E then nat_le (1 + least_nop bs) 15 else true
+
+-- the instruction at an address and its length
+abbrev pub bounded : List ℕ → ℕ → Result (Draft × List ℕ) DecodeFault → Result (Insn × ℕ) DecodeFault
+bounded bs at (Ok d) =
+    if nat_lt 15 (length bs - length d.1) then Err TooLong
+    else Ok (resolve ((at + (length bs - length d.1)) % 2 ^ 64) d.0, length bs - length d.1)
+bounded bs at (Err Short) = if fits bs then Err Short else Err TooLong
+bounded bs at (Err Unknown) = Err Unknown
+bounded bs at (Err TooLong) = Err Unknown
+
+unfoldable pub decode_at : List ℕ → ℕ → Result (Insn × ℕ) DecodeFault
+decode_at bs at = bounded bs at (draft_at bs)

@@ -47,13 +47,13 @@ fn opcode(head: Head, op: u8, bytes: &[u8]) -> Result<(Draft, &[u8]), DecodeFaul
     }
 }
 
-fn is_rex(b: u8) -> bool
+pub fn is_rex(b: u8) -> bool
     ensures { result ≡ is_rex_byte b }
 {
     b >= 64 && b < 80
 }
 
-fn rex_of(b: u8) -> Rex
+pub fn rex_of(b: u8) -> Rex
     ensures { result ≡ rex_bits b }
 {
     Rex {
