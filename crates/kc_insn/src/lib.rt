@@ -1,6 +1,7 @@
 //! The instructions of kernel entry code that entrycert knows.
 #![tactic(auto)]
 
+mod encodable;
 mod insn;
 mod rex;
 
