@@ -59,16 +59,16 @@ fails-is e f h = cc
 module _ (bs : List ℕ) (at : ℕ) (fit : AreBytes bs) where
   front-found : (d : Draft) (rest : List ℕ) (insn : Insn) (n : ℕ) → draft_at bs ≡ Ok (d, rest) → bounded bs at (Ok (d, rest)) ≡ Ok (insn, n) → (n ≤ length bs) × Spells (take n bs) at insn
   front-found d rest insn n h e =
-    let t = exact-draft.takes bs rest d fit h in
-    let len : length bs ≡ length t.0 + length rest = omega (arith, ap (λ (l : List ℕ). length l) t.2, length-append t.0 rest) in
-    let g = guard (nat_lt 15 (length bs - length rest)) TooLong (resolve ((at + (length bs - length rest)) % 2 ^ 64) d, length bs - length rest) (insn, n) e in
-    let small : length bs - length rest ≤ 15 = ltb-false 15 (length bs - length rest) g.0 in
-    let n-is : length bs - length rest ≡ n = ap (λ (p : Insn × ℕ). p.1) g.1 in
-    let len-is : length t.0 ≡ n = omega (arith, n-is, len) in
-    let front-is : take n bs ≡ t.0 = ap (take n) t.2 ∙ take_at t.0 rest n len-is in
-    let insn-is : insn ≡ resolve (at + length t.0) d =
-        sym (ap (λ (p : Insn × ℕ). p.0) g.1) ∙ resolve-mod (at + (length bs - length rest)) d ∙ ap (λ (k : ℕ). resolve (at + k) d) (n-is ∙ sym len-is) in
-    (omega (arith, len, len-is), subst (λ (l : List ℕ). Spells l at insn) (sym front-is) (omega (arith, small, n-is, len-is), (d, t.1, insn-is)))
+      let t = exact-draft.takes bs rest d fit h in
+      let len : length bs ≡ length t.0 + length rest = omega (arith, ap (λ (l : List ℕ). length l) t.2, length-append t.0 rest) in
+      let g = guard (nat_lt 15 (length bs - length rest)) TooLong (resolve ((at + (length bs - length rest)) % 2 ^ 64) d, length bs - length rest) (insn, n) e in
+      let small : length bs - length rest ≤ 15 = ltb-false 15 (length bs - length rest) g.0 in
+      let n-is : length bs - length rest ≡ n = ap (λ (p : Insn × ℕ). p.1) g.1 in
+      let len-is : length t.0 ≡ n = omega (arith, n-is, len) in
+      let front-is : take n bs ≡ t.0 = ap (take n) t.2 ∙ take_at t.0 rest n len-is in
+      let insn-is : insn ≡ resolve (at + length t.0) d =
+      sym (ap (λ (p : Insn × ℕ). p.0) g.1) ∙ resolve-mod (at + (length bs - length rest)) d ∙ ap (λ (k : ℕ). resolve (at + k) d) (n-is ∙ sym len-is) in
+      (omega (arith, len, len-is), subst (λ (l : List ℕ). Spells l at insn) (sym front-is) (omega (arith, small, n-is, len-is), (d, t.1, insn-is)))
 
   decoded-found : (insn : Insn) (n : ℕ) → decode_at bs at ≡ Ok (insn, n) → (n ≤ length bs) × Spells (take n bs) at insn
   unfolding decode_at
@@ -87,36 +87,36 @@ module _ (bs : List ℕ) (at : ℕ) (fit : AreBytes bs) where
   decoded-only : (n : ℕ) (insn : Insn) → n ≤ length bs → Spells (take n bs) at insn → decode_at bs at ≡ Ok (insn, n)
   unfolding decode_at
   decoded-only n insn le h =
-    let d = h.1.0 in
-    let one = front-draft n d h.1.1 in
-    let len : length (take n bs) ≡ n = omega (arith, length-take n bs) in
-    let rest : length bs - length (drop n bs) ≡ n = omega (arith, length-drop n bs) in
-    let small : ltb 15 (length bs - length (drop n bs)) ≡ false = le-ltb 15 (length bs - length (drop n bs)) (omega (arith, rest, h.0, len)) in
-    let insn-is : resolve ((at + (length bs - length (drop n bs))) % 2 ^ 64) d ≡ insn =
-        resolve-mod (at + (length bs - length (drop n bs))) d ∙ ap (λ (k : ℕ). resolve (at + k) d) (rest ∙ sym len) ∙ sym h.1.2 in
-    let two : bounded bs at (Ok (d, drop n bs)) ≡ Ok (resolve ((at + (length bs - length (drop n bs))) % 2 ^ 64) d, length bs - length (drop n bs)) =
-        ap (λ (b : Bool). cond b (Err TooLong) (Ok (resolve ((at + (length bs - length (drop n bs))) % 2 ^ 64) d, length bs - length (drop n bs)))) small in
-    ap (bounded bs at) one ∙ two ∙ ap (λ (i : Insn). Ok (i, length bs - length (drop n bs))) insn-is ∙ ap (λ (k : ℕ). Ok (insn, k)) rest
+      let d = h.1.0 in
+      let one = front-draft n d h.1.1 in
+      let len : length (take n bs) ≡ n = omega (arith, length-take n bs) in
+      let rest : length bs - length (drop n bs) ≡ n = omega (arith, length-drop n bs) in
+      let small : ltb 15 (length bs - length (drop n bs)) ≡ false = le-ltb 15 (length bs - length (drop n bs)) (omega (arith, rest, h.0, len)) in
+      let insn-is : resolve ((at + (length bs - length (drop n bs))) % 2 ^ 64) d ≡ insn =
+      resolve-mod (at + (length bs - length (drop n bs))) d ∙ ap (λ (k : ℕ). resolve (at + k) d) (rest ∙ sym len) ∙ sym h.1.2 in
+      let two : bounded bs at (Ok (d, drop n bs)) ≡ Ok (resolve ((at + (length bs - length (drop n bs))) % 2 ^ 64) d, length bs - length (drop n bs)) =
+      ap (λ (b : Bool). cond b (Err TooLong) (Ok (resolve ((at + (length bs - length (drop n bs))) % 2 ^ 64) d, length bs - length (drop n bs)))) small in
+      ap (bounded bs at) one ∙ two ∙ ap (λ (i : Insn). Ok (i, length bs - length (drop n bs))) insn-is ∙ ap (λ (k : ℕ). Ok (insn, k)) rest
 
   -- ---- Unknown
 
   begins-ok : (d : Draft) (rest : List ℕ) → draft_at bs ≡ Ok (d, rest) → BeginsUnbounded bs at
   begins-ok d rest h =
-    let t = exact-draft.takes bs rest d fit h in
-    let front-is : take (length t.0) bs ≡ t.0 = ap (take (length t.0)) t.2 ∙ take_at t.0 rest (length t.0) refl in
-    inl (length t.0, resolve (at + length (take (length t.0) bs)) d, omega (arith, ap (λ (l : List ℕ). length l) t.2, length-append t.0 rest), (d, subst (λ (l : List ℕ). Spelled l d) (sym front-is) t.1, refl))
+      let t = exact-draft.takes bs rest d fit h in
+      let front-is : take (length t.0) bs ≡ t.0 = ap (take (length t.0)) t.2 ∙ take_at t.0 rest (length t.0) refl in
+      inl (length t.0, resolve (at + length (take (length t.0) bs)) d, omega (arith, ap (λ (l : List ℕ). length l) t.2, length-append t.0 rest), (d, subst (λ (l : List ℕ). Spelled l d) (sym front-is) t.1, refl))
 
   begins-short : draft_at bs ≡ Err Short → BeginsUnbounded bs at
   begins-short h =
-    let c = exact-draft.completes bs Short fit h refl in
-    inr (c.0, resolve (at + length (bs ++ c.0)) c.1, c.2, (c.1, c.3, refl))
+      let c = exact-draft.completes bs Short fit h refl in
+      inr (c.0, resolve (at + length (bs ++ c.0)) c.1, c.2, (c.1, c.3, refl))
 
   begins-not : (e : DecodeFault) → draft_at bs ≡ Err e → is_short e ≡ false → BeginsUnbounded bs at → ⊥
   begins-not e h s (inl b) = let one = front-draft b.0 b.3.0 b.3.1 in let clash : Err e ≡ Ok (b.3.0, drop b.0 bs) = sym h ∙ one in cc
   begins-not e h s (inr b) =
-    let k = exact-short is_short draft_at Spelled exact-draft bs b.0 b.3.0 fit b.2 b.3.1 in
-    let same : e ≡ k.0 = fails-is e k.0 (sym h ∙ k.1) in
-    let clash : false ≡ true = sym s ∙ ap is_short same ∙ k.2 in cc
+      let k = exact-short is_short draft_at Spelled exact-draft bs b.0 b.3.0 fit b.2 b.3.1 in
+      let same : e ≡ k.0 = fails-is e k.0 (sym h ∙ k.1) in
+      let clash : false ≡ true = sym s ∙ ap is_short same ∙ k.2 in cc
 
   decoded-unknown : decode_at bs at ≡ Err Unknown → BeginsUnbounded bs at → ⊥
   unfolding decode_at

@@ -27,10 +27,10 @@ pub exact-wanted : {A : Type 0} (key : ℕ) → key < 256 → (read : List ℕ �
 exact-wanted {A} key below read S ex some =
     let T : ℕ → List ℕ → A → Type 0 = λ b rest x. (b ≡ key) × S rest x in
     exact-byte is_short Short refl (λ b bs. cond (eqb b key) (read bs) (Err Unknown)) T
-      (λ b fits. exact-cases is_short (eqb b key) read (λ bs. Err Unknown) (T b)
-        (λ e. exact-words is_short read S (T b) ex (λ bs x h. (eqb-true b key e, h)) (λ bs x h. h.1))
-        (λ e. exact-words is_short (λ bs. Err Unknown) (λ bs x. ⊥) (T b) (exact-none is_short Unknown refl) (λ bs x h. absurd h) (λ bs x h. absurd (eqb-false b key e h.0))))
-      (key, some.0, some.1, below, (refl, some.2))
+    (λ b fits. exact-cases is_short (eqb b key) read (λ bs. Err Unknown) (T b)
+    (λ e. exact-words is_short read S (T b) ex (λ bs x h. (eqb-true b key e, h)) (λ bs x h. h.1))
+    (λ e. exact-words is_short (λ bs. Err Unknown) (λ bs x. ⊥) (T b) (exact-none is_short Unknown refl) (λ bs x h. absurd h) (λ bs x h. absurd (eqb-false b key e h.0))))
+    (key, some.0, some.1, below, (refl, some.2))
 
 -- ---- behind F3
 
@@ -39,13 +39,13 @@ F3Row rex = ByteThen (λ op back y. RowTail (lookup op two_byte_f3) false rex ba
 
 pub data F3Spelled (bytes : List ℕ) (d : Draft) : Type 0 where
   f3 : (rex : Option Rex) (rex_bytes : List ℕ) (op : ℕ) (form : Form) (tail : List ℕ) → bytes ≡ rex_bytes ++ 0x0F ∷ op ∷ tail
-    → IsRex rex_bytes rex → lookup op two_byte_f3 ≡ Some form → permits form false rex ≡ true → IsTail form false rex tail d → F3Spelled bytes d
+      → IsRex rex_bytes rex → lookup op two_byte_f3 ≡ Some form → permits form false rex ≡ true → IsTail form false rex tail d → F3Spelled bytes d
 
 exact-f3_row : (rex : Option Rex) → (op : ℕ) × (back : List ℕ) × (d : Draft) × (op < 256) × RowTail (lookup op two_byte_f3) false rex back d → Exact is_short (f3_row_at rex) (F3Row rex)
 unfolding f3_row_at
 exact-f3_row rex some =
     exact-byte is_short Short refl (λ op bs. row_at (lookup op two_byte_f3) false rex bs) (λ op back y. RowTail (lookup op two_byte_f3) false rex back y)
-      (λ op fits. exact-row (lookup op two_byte_f3) false rex (f3-live op)) some
+    (λ op fits. exact-row (lookup op two_byte_f3) false rex (f3-live op)) some
 
 endbr-row : (op : ℕ) × (back : List ℕ) × (d : Draft) × (op < 256) × RowTail (lookup op two_byte_f3) false None back d
 unfolding two_byte_f3
@@ -68,7 +68,7 @@ gs-base_row b =
     let rex : Rex = record { w = true; r = false; x = false; b = b } in
     let r : Reg = extended b 0 in
     let o : IsOperand false (Some rex) 1 (200 ∷ []) (place.Reg r) =
-        record { mode = 3; rm = 0; rest = []; mode_range = lit< tt; reg_range = lit< tt; rm_range = lit< tt; modrm = refl; operand_is = in_register refl refl refl refl refl } in
+    record { mode = 3; rm = 0; rest = []; mode_range = lit< tt; reg_range = lit< tt; rm_range = lit< tt; modrm = refl; operand_is = in_register refl refl refl refl refl } in
     (0xAE, 200 ∷ [], whole (insn.ReadGs r), lit< tt, (rm_register_w gs-select, gs-row, gs-permits b, (1, insn.ReadGs, r, refl, o, refl)))
 
 some-gs : (rex : Rex) → (rex.w && (not rex.r && not rex.x)) ≡ true → (op : ℕ) × (back : List ℕ) × (d : Draft) × (op < 256) × RowTail (lookup op two_byte_f3) false (Some rex) back d
@@ -154,15 +154,15 @@ exact-f3_byte b =
     let S : List ℕ → Draft → Type 0 = λ bs d. F3Spelled (b ∷ bs) d in
     let test : Bool = (rex_of b).w && (not (rex_of b).r && not (rex_of b).x) in
     exact-cases is_short (is_rex b) (λ bs. cond test (f3_escape_at (rex_of b) bs) (Err Unknown)) (λ bs. cond (eqb b 0x0F) (f3_row_at None bs) (Err Unknown)) S
-      (λ r. exact-cases is_short test (f3_escape_at (rex_of b)) (λ bs. Err Unknown) S
-        (λ w. exact-words is_short (f3_escape_at (rex_of b)) (F3Escape (rex_of b)) S (exact-f3_escape (rex_of b) w) (f3-to b r) (λ bs d h. (f3-back b r bs d h).0))
-        (λ w. exact-words is_short (λ bs. Err Unknown) (λ bs d. ⊥) S (exact-none is_short Unknown refl) (λ bs d h. absurd h)
-          (λ bs d h. let clash : true ≡ false = sym (f3-back b r bs d h).1 ∙ w in cc)))
-      (λ r. exact-cases is_short (eqb b 0x0F) (f3_row_at None) (λ bs. Err Unknown) S
-        (λ e. exact-words is_short (f3_row_at None) (F3Row None) S (exact-f3_row None endbr-row)
-          (λ bs d h. f3 None [] h.0 h.3.0 h.1 (ap (λ (k : ℕ). k ∷ bs) (eqb-true b 0x0F e) ∙ ap (λ (t : List ℕ). 0x0F ∷ t) h.4) refl h.3.1 h.3.2 h.3.3) (λ bs d h. (f3-plain_back b r bs d h).1))
-        (λ e. exact-words is_short (λ bs. Err Unknown) (λ bs d. ⊥) S (exact-none is_short Unknown refl) (λ bs d h. absurd h)
-          (λ bs d h. eqb-false b 0x0F e (f3-plain_back b r bs d h).0)))
+    (λ r. exact-cases is_short test (f3_escape_at (rex_of b)) (λ bs. Err Unknown) S
+    (λ w. exact-words is_short (f3_escape_at (rex_of b)) (F3Escape (rex_of b)) S (exact-f3_escape (rex_of b) w) (f3-to b r) (λ bs d h. (f3-back b r bs d h).0))
+    (λ w. exact-words is_short (λ bs. Err Unknown) (λ bs d. ⊥) S (exact-none is_short Unknown refl) (λ bs d h. absurd h)
+    (λ bs d h. let clash : true ≡ false = sym (f3-back b r bs d h).1 ∙ w in cc)))
+    (λ r. exact-cases is_short (eqb b 0x0F) (f3_row_at None) (λ bs. Err Unknown) S
+    (λ e. exact-words is_short (f3_row_at None) (F3Row None) S (exact-f3_row None endbr-row)
+    (λ bs d h. f3 None [] h.0 h.3.0 h.1 (ap (λ (k : ℕ). k ∷ bs) (eqb-true b 0x0F e) ∙ ap (λ (t : List ℕ). 0x0F ∷ t) h.4) refl h.3.1 h.3.2 h.3.3) (λ bs d h. (f3-plain_back b r bs d h).1))
+    (λ e. exact-words is_short (λ bs. Err Unknown) (λ bs d. ⊥) S (exact-none is_short Unknown refl) (λ bs d h. absurd h)
+    (λ bs d h. eqb-false b 0x0F e (f3-plain_back b r bs d h).0)))
 
 -- the first byte is a byte
 f3-first : (b : ℕ) (bs : List ℕ) (d : Draft) → F3Spelled (b ∷ bs) d → b < 256
@@ -185,7 +185,7 @@ unfolding f3_at
 exact-f3 =
     let s = endbr-row in
     exact-words is_short f3_at (ByteThen (λ b back y. F3Spelled (b ∷ back) y)) F3Spelled
-      (exact-byte is_short Short refl (λ b bs. cond (is_rex b) (cond ((rex_of b).w && (not (rex_of b).r && not (rex_of b).x)) (f3_escape_at (rex_of b) bs) (Err Unknown)) (cond (eqb b 0x0F) (f3_row_at None bs) (Err Unknown)))
-        (λ b back y. F3Spelled (b ∷ back) y) (λ b fits. exact-f3_byte b)
-        (0x0F, s.0 ∷ s.1, s.2, lit< tt, f3 None [] s.0 s.4.0 s.1 refl refl s.4.1 s.4.2 s.4.3))
-      (λ bs d h. subst (λ (t : List ℕ). F3Spelled t d) (sym h.4) h.3) f3-split
+    (exact-byte is_short Short refl (λ b bs. cond (is_rex b) (cond ((rex_of b).w && (not (rex_of b).r && not (rex_of b).x)) (f3_escape_at (rex_of b) bs) (Err Unknown)) (cond (eqb b 0x0F) (f3_row_at None bs) (Err Unknown)))
+    (λ b back y. F3Spelled (b ∷ back) y) (λ b fits. exact-f3_byte b)
+    (0x0F, s.0 ∷ s.1, s.2, lit< tt, f3 None [] s.0 s.4.0 s.1 refl refl s.4.1 s.4.2 s.4.3))
+    (λ bs d h. subst (λ (t : List ℕ). F3Spelled t d) (sym h.4) h.3) f3-split

@@ -28,10 +28,10 @@ exact-row None gs rex live =
     exact-words is_short (row_at None gs rex) (λ bs d. ⊥) (RowTail None gs rex) (exact-none is_short Unknown refl) (λ bs d h. absurd h) (λ bs d h. let e : None ≡ Some h.0 = h.1 in absurd cc)
 exact-row (Some form) gs rex live =
     exact-cases is_short (permits form gs rex) (tail_at form gs rex) (λ bs. Err Unknown) (RowTail (Some form) gs rex)
-      (λ fits. exact-words is_short (tail_at form gs rex) (IsTail form gs rex) (RowTail (Some form) gs rex) (exact-tail form gs rex (live form refl) fits)
-        (λ bs d h. (form, refl, fits, h)) (λ bs d h. let same : h.0 ≡ form = cc in subst (λ (f : Form). IsTail f gs rex bs d) same h.3))
-      (λ none. exact-words is_short (λ bs. Err Unknown) (λ bs d. ⊥) (RowTail (Some form) gs rex) (exact-none is_short Unknown refl)
-        (λ bs d h. absurd h) (λ bs d h. let same : h.0 ≡ form = cc in let clash : true ≡ false = sym h.2 ∙ ap (λ (f : Form). permits f gs rex) same ∙ none in absurd cc))
+    (λ fits. exact-words is_short (tail_at form gs rex) (IsTail form gs rex) (RowTail (Some form) gs rex) (exact-tail form gs rex (live form refl) fits)
+    (λ bs d h. (form, refl, fits, h)) (λ bs d h. let same : h.0 ≡ form = cc in subst (λ (f : Form). IsTail f gs rex bs d) same h.3))
+    (λ none. exact-words is_short (λ bs. Err Unknown) (λ bs d. ⊥) (RowTail (Some form) gs rex) (exact-none is_short Unknown refl)
+    (λ bs d h. absurd h) (λ bs d h. let same : h.0 ≡ form = cc in let clash : true ≡ false = sym h.2 ∙ ap (λ (f : Form). permits f gs rex) same ∙ none in absurd cc))
 
 -- ---- behind an opcode byte
 
@@ -69,38 +69,40 @@ pub exact-escape : (gs : Bool) (rex : Option Rex) → r_bit rex ≡ false → Ex
 exact-escape gs rex r =
     let t = bit-tail gs rex r in
     exact-byte is_short Short refl (λ b bs. row_at (lookup b two_byte) gs rex bs) (λ b back y. RowTail (lookup b two_byte) gs rex back y)
-      (λ b fits. exact-row (lookup b two_byte) gs rex (two-live b))
-      (0xBA, ((8 * 4 + 4) ∷ 0 ∷ []) ++ replicate 1 0, t.0, lit< tt, t.1)
+    (λ b fits. exact-row (lookup b two_byte) gs rex (two-live b))
+    (0xBA, ((8 * 4 + 4) ∷ 0 ∷ []) ++ replicate 1 0, t.0, lit< tt, t.1)
 
 pub exact-opcode : (gs : Bool) (rex : Option Rex) (op : ℕ) → Exact is_short (opcode_at gs rex op) (OpTail gs rex op)
 unfolding opcode_at
 exact-opcode gs rex op =
     exact-cases is_short (eqb op 0x0F)
-      (λ bs. cond (r_bit rex) (Err Unknown) (byte_at Short bs >>= λ b. row_at (lookup b.0 two_byte) gs rex b.1))
-      (row_at (lookup op one_byte) gs rex) (OpTail gs rex op)
-      (λ e. let is : op ≡ 0x0F = eqb-true op 0x0F e in
-        exact-cases is_short (r_bit rex) (λ bs. Err Unknown) (λ bs. byte_at Short bs >>= λ b. row_at (lookup b.0 two_byte) gs rex b.1) (OpTail gs rex op)
-          (λ r. exact-words is_short (λ bs. Err Unknown) (λ bs d. ⊥) (OpTail gs rex op) (exact-none is_short Unknown refl) (λ bs d h. absurd h)
-            (λ bs d h. elim h [
-              | inl a ↦ let none : r_bit rex ≡ false = two-r a.1.0 a.1.3.0 gs rex a.1.3.1 a.1.3.2 in let clash : true ≡ false = sym r ∙ none in cc
-              | inr b ↦ let none : None ≡ Some b.0 = sym escape-no_row ∙ ap (λ (k : ℕ). lookup k one_byte) (sym is) ∙ b.1 in cc ]))
-          (λ r. exact-words is_short (λ bs. byte_at Short bs >>= λ b. row_at (lookup b.0 two_byte) gs rex b.1) (ByteThen (λ b back y. RowTail (lookup b two_byte) gs rex back y)) (OpTail gs rex op)
-            (exact-escape gs rex r) (λ bs d h. inl (is, h))
-            (λ bs d h. elim h [
-              | inl a ↦ a.1
-              | inr b ↦ let none : None ≡ Some b.0 = sym escape-no_row ∙ ap (λ (k : ℕ). lookup k one_byte) (sym is) ∙ b.1 in absurd cc ])))
-      (λ e. exact-words is_short (row_at (lookup op one_byte) gs rex) (RowTail (lookup op one_byte) gs rex) (OpTail gs rex op)
-        (exact-row (lookup op one_byte) gs rex (one-live op)) (λ bs d h. inr h)
-        (λ bs d h. elim h [ inl a ↦ absurd (eqb-false op 0x0F e a.0) | inr b ↦ b ]))
+    (λ bs. cond (r_bit rex) (Err Unknown) (byte_at Short bs >>= λ b. row_at (lookup b.0 two_byte) gs rex b.1))
+    (row_at (lookup op one_byte) gs rex) (OpTail gs rex op)
+    (λ e. let is : op ≡ 0x0F = eqb-true op 0x0F e in
+    exact-cases is_short (r_bit rex) (λ bs. Err Unknown) (λ bs. byte_at Short bs >>= λ b. row_at (lookup b.0 two_byte) gs rex b.1) (OpTail gs rex op)
+    (λ r. exact-words is_short (λ bs. Err Unknown) (λ bs d. ⊥) (OpTail gs rex op) (exact-none is_short Unknown refl) (λ bs d h. absurd h)
+    (λ bs d h. elim h [
+      | inl a ↦ let none : r_bit rex ≡ false = two-r a.1.0 a.1.3.0 gs rex a.1.3.1 a.1.3.2 in let clash : true ≡ false = sym r ∙ none in cc
+      | inr b ↦ let none : None ≡ Some b.0 = sym escape-no_row ∙ ap (λ (k : ℕ). lookup k one_byte) (sym is) ∙ b.1 in cc
+    ]))
+    (λ r. exact-words is_short (λ bs. byte_at Short bs >>= λ b. row_at (lookup b.0 two_byte) gs rex b.1) (ByteThen (λ b back y. RowTail (lookup b two_byte) gs rex back y)) (OpTail gs rex op)
+    (exact-escape gs rex r) (λ bs d h. inl (is, h))
+    (λ bs d h. elim h [
+      | inl a ↦ a.1
+      | inr b ↦ let none : None ≡ Some b.0 = sym escape-no_row ∙ ap (λ (k : ℕ). lookup k one_byte) (sym is) ∙ b.1 in absurd cc
+    ])))
+    (λ e. exact-words is_short (row_at (lookup op one_byte) gs rex) (RowTail (lookup op one_byte) gs rex) (OpTail gs rex op)
+    (exact-row (lookup op one_byte) gs rex (one-live op)) (λ bs d h. inr h)
+    (λ bs d h. elim h [ inl a ↦ absurd (eqb-false op 0x0F e a.0) | inr b ↦ b ]))
 
 -- ---- REX and an opcode
 
 -- an instruction without its prefix 65
 pub data Opened (gs : Bool) (bytes : List ℕ) (d : Draft) : Type 0 where
   one : (rex : Option Rex) (rex_bytes : List ℕ) (op : ℕ) (form : Form) (tail : List ℕ) → bytes ≡ rex_bytes ++ op ∷ tail
-    → IsRex rex_bytes rex → lookup op one_byte ≡ Some form → permits form gs rex ≡ true → IsTail form gs rex tail d → Opened gs bytes d
+      → IsRex rex_bytes rex → lookup op one_byte ≡ Some form → permits form gs rex ≡ true → IsTail form gs rex tail d → Opened gs bytes d
   two : (rex : Option Rex) (rex_bytes : List ℕ) (op : ℕ) (form : Form) (tail : List ℕ) → bytes ≡ rex_bytes ++ 0x0F ∷ op ∷ tail
-    → IsRex rex_bytes rex → lookup op two_byte ≡ Some form → permits form gs rex ≡ true → IsTail form gs rex tail d → Opened gs bytes d
+      → IsRex rex_bytes rex → lookup op two_byte ≡ Some form → permits form gs rex ≡ true → IsTail form gs rex tail d → Opened gs bytes d
 
 pub opened-op : (gs : Bool) (rex : Option Rex) (rex_bytes : List ℕ) → IsRex rex_bytes rex → (op : ℕ) (bs : List ℕ) (d : Draft) → OpTail gs rex op bs d → Opened gs (rex_bytes ++ op ∷ bs) d
 opened-op gs rex rex_bytes is op bs d (inl h) =
@@ -113,9 +115,9 @@ apart-no_rex op a = go (is_rex op) refl
     go : (t : Bool) → is_rex op ≡ t → t ≡ false
     go false e = refl
     go true e =
-      let low : 64 ≤ op = leb-true 64 op (and-left (leb 64 op) (ltb op 80) e) in
-      let high : op < 80 = ltb-true op 80 (and-right (leb 64 op) (ltb op 80) e) in
-      absurd (elim a.0 [ inl l ↦ omega arith | inr r ↦ omega arith ])
+        let low : 64 ≤ op = leb-true 64 op (and-left (leb 64 op) (ltb op 80) e) in
+        let high : op < 80 = ltb-true op 80 (and-right (leb 64 op) (ltb op 80) e) in
+        absurd (elim a.0 [ inl l ↦ omega arith | inr r ↦ omega arith ])
 
 -- what stands behind the first byte b
 abbrev pub RexTail : Bool → ℕ → List ℕ → Draft → Type 0
@@ -125,7 +127,7 @@ pub exact-rex_tail : (gs : Bool) (b : ℕ) → Exact is_short (λ bs. byte_at Sh
 exact-rex_tail gs b =
     let t = mov-tail gs (Some (rex_of b)) in
     exact-byte is_short Short refl (λ op bs. opcode_at gs (Some (rex_of b)) op bs) (λ op back y. OpTail gs (Some (rex_of b)) op back y)
-      (λ op fits. exact-opcode gs (Some (rex_of b)) op) (0x89, (8 * 0 + 4) ∷ 0 ∷ [], t.0, lit< tt, inr t.1)
+    (λ op fits. exact-opcode gs (Some (rex_of b)) op) (0x89, (8 * 0 + 4) ∷ 0 ∷ [], t.0, lit< tt, inr t.1)
 
 pub rex-to : (gs : Bool) (b : ℕ) → is_rex b ≡ true → (bs : List ℕ) (d : Draft) → RexTail gs b bs d → Opened gs (b ∷ bs) d
 rex-to gs b r bs d h =
@@ -177,7 +179,7 @@ pub exact-plain : (gs : Bool) (b : ℕ) → Exact is_short (plain_at gs b) (λ b
 unfolding plain_at
 exact-plain gs b =
     exact-cases is_short (is_rex b) (λ bs. byte_at Short bs >>= λ op. opcode_at gs (Some (rex_of b)) op.0 op.1) (opcode_at gs None b) (λ bs d. Opened gs (b ∷ bs) d)
-      (λ r. exact-words is_short (λ bs. byte_at Short bs >>= λ op. opcode_at gs (Some (rex_of b)) op.0 op.1) (RexTail gs b) (λ bs d. Opened gs (b ∷ bs) d)
-        (exact-rex_tail gs b) (rex-to gs b r) (rex-back-tail gs b r))
-      (λ r. exact-words is_short (opcode_at gs None b) (OpTail gs None b) (λ bs d. Opened gs (b ∷ bs) d)
-        (exact-opcode gs None b) (λ bs d h. opened-op gs None [] refl b bs d h) (plain-back-tail gs b r))
+    (λ r. exact-words is_short (λ bs. byte_at Short bs >>= λ op. opcode_at gs (Some (rex_of b)) op.0 op.1) (RexTail gs b) (λ bs d. Opened gs (b ∷ bs) d)
+    (exact-rex_tail gs b) (rex-to gs b r) (rex-back-tail gs b r))
+    (λ r. exact-words is_short (opcode_at gs None b) (OpTail gs None b) (λ bs d. Opened gs (b ∷ bs) d)
+    (exact-opcode gs None b) (λ bs d h. opened-op gs None [] refl b bs d h) (plain-back-tail gs b r))

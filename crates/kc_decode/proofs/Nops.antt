@@ -24,7 +24,7 @@ use Rattle.kc_decode.proofs.BehindF3.{exact-wanted}
 
 pub data NopSpelled (bytes : List ℕ) (d : Draft) : Type 0 where
   nop : (rex : Option Rex) (rex_bytes tail : List ℕ) → bytes ≡ rex_bytes ++ 0x0F ∷ 0x1F ∷ tail
-    → IsRex rex_bytes rex → permits rm_unused false rex ≡ true → IsTail rm_unused false rex tail d → NopSpelled bytes d
+      → IsRex rex_bytes rex → permits rm_unused false rex ≡ true → IsTail rm_unused false rex tail d → NopSpelled bytes d
 
 abbrev pub NopTail : Option Rex → List ℕ → Draft → Type 0
 NopTail rex = ByteThen (λ op back d. (op ≡ 0x1F) × IsTail rm_unused false rex back d)
@@ -89,15 +89,15 @@ exact-nop b =
     let S : List ℕ → Draft → Type 0 = λ bs d. NopSpelled (b ∷ bs) d in
     let wr : Bool = (rex_of b).w || (rex_of b).r in
     exact-cases is_short (is_rex b) (λ bs. cond wr (Err Unknown) (nop_escape_at (rex_of b) bs)) (λ bs. cond (eqb b 0x0F) (nop_tail_at None bs) (Err Unknown)) S
-      (λ r. exact-cases is_short wr (λ bs. Err Unknown) (nop_escape_at (rex_of b)) S
-        (λ w. exact-words is_short (λ bs. Err Unknown) (λ bs d. ⊥) S (exact-none is_short Unknown refl) (λ bs d h. absurd h)
-          (λ bs d h. let clash : true ≡ false = sym w ∙ (nop-back b r bs d h).1 in cc))
-        (λ w. exact-words is_short (nop_escape_at (rex_of b)) (NopEscape (rex_of b)) S (exact-nop_escape (rex_of b)) (nop-to b r w) (λ bs d h. (nop-back b r bs d h).0)))
-      (λ r. exact-cases is_short (eqb b 0x0F) (nop_tail_at None) (λ bs. Err Unknown) S
-        (λ e. exact-words is_short (nop_tail_at None) (NopTail None) S (exact-nop_tail None)
-          (λ bs d h. nop None [] h.1 (ap (λ (k : ℕ). k ∷ bs) (eqb-true b 0x0F e) ∙ ap (λ (t : List ℕ). 0x0F ∷ t) (h.4 ∙ ap (λ (t : ℕ). t ∷ h.1) h.3.0)) refl refl h.3.1) (λ bs d h. (nop-plain_back b r bs d h).1))
-        (λ e. exact-words is_short (λ bs. Err Unknown) (λ bs d. ⊥) S (exact-none is_short Unknown refl) (λ bs d h. absurd h)
-          (λ bs d h. eqb-false b 0x0F e (nop-plain_back b r bs d h).0)))
+    (λ r. exact-cases is_short wr (λ bs. Err Unknown) (nop_escape_at (rex_of b)) S
+    (λ w. exact-words is_short (λ bs. Err Unknown) (λ bs d. ⊥) S (exact-none is_short Unknown refl) (λ bs d h. absurd h)
+    (λ bs d h. let clash : true ≡ false = sym w ∙ (nop-back b r bs d h).1 in cc))
+    (λ w. exact-words is_short (nop_escape_at (rex_of b)) (NopEscape (rex_of b)) S (exact-nop_escape (rex_of b)) (nop-to b r w) (λ bs d h. (nop-back b r bs d h).0)))
+    (λ r. exact-cases is_short (eqb b 0x0F) (nop_tail_at None) (λ bs. Err Unknown) S
+    (λ e. exact-words is_short (nop_tail_at None) (NopTail None) S (exact-nop_tail None)
+    (λ bs d h. nop None [] h.1 (ap (λ (k : ℕ). k ∷ bs) (eqb-true b 0x0F e) ∙ ap (λ (t : List ℕ). 0x0F ∷ t) (h.4 ∙ ap (λ (t : ℕ). t ∷ h.1) h.3.0)) refl refl h.3.1) (λ bs d h. (nop-plain_back b r bs d h).1))
+    (λ e. exact-words is_short (λ bs. Err Unknown) (λ bs d. ⊥) S (exact-none is_short Unknown refl) (λ bs d h. absurd h)
+    (λ bs d h. eqb-false b 0x0F e (nop-plain_back b r bs d h).0)))
 
 -- the first byte is 0F or REX
 pub nop-first : (b : ℕ) (bs : List ℕ) (d : Draft) → NopSpelled (b ∷ bs) d → (b ≡ 0x0F) ⊎ ((64 ≤ b) × (b < 80))
@@ -124,8 +124,8 @@ unfolding behind_2e_at
 exact-behind_2e =
     let z = zero-nop_spelled in
     exact-words is_short behind_2e_at (ByteThen (λ b back y. NopSpelled (b ∷ back) y)) NopSpelled
-      (exact-byte is_short Short refl (λ b bs. nop_at b bs) (λ b back y. NopSpelled (b ∷ back) y) (λ b fits. exact-nop b) (0x0F, z.0, z.1, lit< tt, z.2))
-      (λ bs d h. subst (λ (t : List ℕ). NopSpelled t d) (sym h.4) h.3) nop-split
+    (exact-byte is_short Short refl (λ b bs. nop_at b bs) (λ b back y. NopSpelled (b ∷ back) y) (λ b fits. exact-nop b) (0x0F, z.0, z.1, lit< tt, z.2))
+    (λ bs d h. subst (λ (t : List ℕ). NopSpelled t d) (sym h.4) h.3) nop-split
 
 -- ---- any number of 66, then at most one 2E
 
@@ -142,6 +142,7 @@ nop-tests b bs d h = (go 0x66 (λ e. elim (nop-first b bs d h) [ inl k ↦ omega
     at : (key : ℕ) → (b ≡ key → ⊥) → (t : Bool) → eqb b key ≡ t → t ≡ false
     at key other false e = refl
     at key other true e = absurd (other (eqb-true b key e))
+
     go : (key : ℕ) → (b ≡ key → ⊥) → eqb b key ≡ false
     go key other = at key other (eqb b key) refl
 
@@ -151,17 +152,17 @@ padded-takes [] rest d fits h = absurd cc
 padded-takes (b ∷ bs) rest d fits h =
     elim (chosen (eqb b 0x66) (padded_at bs) (cond (eqb b 0x2E) (behind_2e_at bs) (nop_at b bs)) (Ok (d, rest)) h) [
       | inl k ↦
-        let t = padded-takes bs rest d fits.1 k.1 in
-        (b ∷ t.0, more-66 b (eqb-true b 0x66 k.0) t.0 d t.1, ap (λ (l : List ℕ). b ∷ l) t.2)
+          let t = padded-takes bs rest d fits.1 k.1 in
+          (b ∷ t.0, more-66 b (eqb-true b 0x66 k.0) t.0 d t.1, ap (λ (l : List ℕ). b ∷ l) t.2)
       | inr k ↦
-        elim (chosen (eqb b 0x2E) (behind_2e_at bs) (nop_at b bs) (Ok (d, rest)) k.1) [
-          | inl m ↦
-            let t = exact-behind_2e.takes bs rest d fits.1 m.1 in
-            (b ∷ t.0, (0, true, t.0, ap (λ (k : ℕ). k ∷ t.0) (eqb-true b 0x2E m.0), t.1), ap (λ (l : List ℕ). b ∷ l) t.2)
-          | inr m ↦
-            let t = (exact-nop b).takes bs rest d fits.1 m.1 in
-            (b ∷ t.0, (0, false, b ∷ t.0, refl, t.1), ap (λ (l : List ℕ). b ∷ l) t.2)
-        ]
+          elim (chosen (eqb b 0x2E) (behind_2e_at bs) (nop_at b bs) (Ok (d, rest)) k.1) [
+            | inl m ↦
+                let t = exact-behind_2e.takes bs rest d fits.1 m.1 in
+                (b ∷ t.0, (0, true, t.0, ap (λ (k : ℕ). k ∷ t.0) (eqb-true b 0x2E m.0), t.1), ap (λ (l : List ℕ). b ∷ l) t.2)
+            | inr m ↦
+                let t = (exact-nop b).takes bs rest d fits.1 m.1 in
+                (b ∷ t.0, (0, false, b ∷ t.0, refl, t.1), ap (λ (l : List ℕ). b ∷ l) t.2)
+          ]
     ]
 
 pub padded-again : (n : ℕ) (cs : Bool) (rest more : List ℕ) (d : Draft) → NopSpelled rest d → padded_at ((replicate n 0x66 ++ (cs_bytes cs ++ rest)) ++ more) ≡ Ok (d, more)
@@ -180,10 +181,10 @@ padded-refuses (b ∷ bs) more e fits h s =
     elim (chosen (eqb b 0x66) (padded_at bs) (cond (eqb b 0x2E) (behind_2e_at bs) (nop_at b bs)) (Err e) h) [
       | inl k ↦ let is = k.0 in rw is (padded-refuses bs more e fits.1 k.1 s)
       | inr k ↦
-        elim (chosen (eqb b 0x2E) (behind_2e_at bs) (nop_at b bs) (Err e) k.1) [
-          | inl m ↦ let is = k.0 in let is2 = m.0 in rw (is, is2) (exact-behind_2e.refuses bs more e fits.1 m.1 s)
-          | inr m ↦ let is = k.0 in let is2 = m.0 in rw (is, is2) ((exact-nop b).refuses bs more e fits.1 m.1 s)
-        ]
+          elim (chosen (eqb b 0x2E) (behind_2e_at bs) (nop_at b bs) (Err e) k.1) [
+            | inl m ↦ let is = k.0 in let is2 = m.0 in rw (is, is2) (exact-behind_2e.refuses bs more e fits.1 m.1 s)
+            | inr m ↦ let is = k.0 in let is2 = m.0 in rw (is, is2) ((exact-nop b).refuses bs more e fits.1 m.1 s)
+          ]
     ]
 
 pub padded-completes : (bs : List ℕ) (e : DecodeFault) → AreBytes bs → padded_at bs ≡ Err e → is_short e ≡ true → (more : List ℕ) × (d : Draft) × (0 < length more) × Padded (bs ++ more) d
@@ -193,19 +194,19 @@ padded-completes (b ∷ bs) e fits h s =
     elim (chosen (eqb b 0x66) (padded_at bs) (cond (eqb b 0x2E) (behind_2e_at bs) (nop_at b bs)) (Err e) h) [
       | inl k ↦ let c = padded-completes bs e fits.1 k.1 s in (c.0, c.1, c.2, more-66 b (eqb-true b 0x66 k.0) (bs ++ c.0) c.1 c.3)
       | inr k ↦
-        elim (chosen (eqb b 0x2E) (behind_2e_at bs) (nop_at b bs) (Err e) k.1) [
-          | inl m ↦ let c = exact-behind_2e.completes bs e fits.1 m.1 s in (c.0, c.1, c.2, (0, true, bs ++ c.0, ap (λ (k : ℕ). k ∷ (bs ++ c.0)) (eqb-true b 0x2E m.0), c.3))
-          | inr m ↦ let c = (exact-nop b).completes bs e fits.1 m.1 s in (c.0, c.1, c.2, (0, false, b ∷ (bs ++ c.0), refl, c.3))
-        ]
+          elim (chosen (eqb b 0x2E) (behind_2e_at bs) (nop_at b bs) (Err e) k.1) [
+            | inl m ↦ let c = exact-behind_2e.completes bs e fits.1 m.1 s in (c.0, c.1, c.2, (0, true, bs ++ c.0, ap (λ (k : ℕ). k ∷ (bs ++ c.0)) (eqb-true b 0x2E m.0), c.3))
+            | inr m ↦ let c = (exact-nop b).completes bs e fits.1 m.1 s in (c.0, c.1, c.2, (0, false, b ∷ (bs ++ c.0), refl, c.3))
+          ]
     ]
 
 pub exact-padded : Exact is_short padded_at Padded
 exact-padded = record {
-    takes = padded-takes;
-    again = λ front rest d h. ap (λ (t : List ℕ). padded_at (t ++ rest)) h.3 ∙ padded-again h.0 h.1 h.2 rest d h.4;
-    refuses = padded-refuses;
-    completes = padded-completes;
-  }
+  takes = padded-takes;
+  again = λ front rest d h. ap (λ (t : List ℕ). padded_at (t ++ rest)) h.3 ∙ padded-again h.0 h.1 h.2 rest d h.4;
+  refuses = padded-refuses;
+  completes = padded-completes;
+}
 
 -- ---- behind the first 66
 
@@ -230,8 +231,8 @@ behind_66-takes [] rest d fits h = absurd cc
 behind_66-takes (b ∷ bs) rest d fits h =
     elim (chosen (eqb b 0x90) (Ok (whole insn.Nop, bs)) (padded_at (b ∷ bs)) (Ok (d, rest)) h) [
       | inl k ↦
-        let pair : (whole insn.Nop, bs) ≡ (d, rest) = ok_is {E = DecodeFault} (whole insn.Nop, bs) (d, rest) k.1 in
-        (0x90 ∷ [], inl (refl, sym (ap (λ (p : Draft × List ℕ). p.0) pair)), ap (λ (x : ℕ). x ∷ bs) (eqb-true b 0x90 k.0) ∙ ap (λ (t : List ℕ). 0x90 ∷ t) (ap (λ (p : Draft × List ℕ). p.1) pair))
+          let pair : (whole insn.Nop, bs) ≡ (d, rest) = ok_is {E = DecodeFault} (whole insn.Nop, bs) (d, rest) k.1 in
+          (0x90 ∷ [], inl (refl, sym (ap (λ (p : Draft × List ℕ). p.0) pair)), ap (λ (x : ℕ). x ∷ bs) (eqb-true b 0x90 k.0) ∙ ap (λ (t : List ℕ). 0x90 ∷ t) (ap (λ (p : Draft × List ℕ). p.1) pair))
       | inr k ↦ let t = exact-padded.takes (b ∷ bs) rest d fits k.1 in (t.0, inr t.1, t.2)
     ]
 

@@ -57,30 +57,30 @@ module _ (gs : Bool) (rex : Option Rex) where
   exact-sib : (mode : ℕ) → Exact is_short (sib_at gs rex mode) (ByteThen (SibTail mode))
   unfolding sib_at
   exact-sib mode =
-    exact-byte is_short Short refl
+      exact-byte is_short Short refl
       (λ s bs. disp_at (disp_bytes mode (rm_field s)) bs >>= λ d. Ok (sib_mem mode s d.0, d.1))
       (SibTail mode)
       (λ s fits. exact-map is_short (disp_at (disp_bytes mode (rm_field s))) (IsSigned (disp_bytes mode (rm_field s))) (sib_mem mode s) (exact-disp (disp_bytes mode (rm_field s))))
       (let n : ℕ = disp_bytes mode 0 in
-       let d : ℤ = signed n (zero_number n) in
-       (0, replicate n 0, sib_mem mode 0 d, lit< tt, (d, (zero_number n, IsNumber-zeros n, refl), refl)))
+      let d : ℤ = signed n (zero_number n) in
+      (0, replicate n 0, sib_mem mode 0 d, lit< tt, (d, (zero_number n, IsNumber-zeros n, refl), refl)))
 
   sib-to : (mode rm : ℕ) → rm ≡ 4 → (bs : List ℕ) (mem : Mem) → ByteThen (SibTail mode) bs mem → IsMemory gs rex mode rm bs mem
   sib-to mode rm four bs mem h =
-    let f = fields-of h.0 h.2 in
-    sib (mode_field h.0) (reg_field h.0) (rm_field h.0) h.1 h.3.0 four f.1 f.2 f.3 (h.4 ∙ ap (λ (m : ℕ). m ∷ h.1) f.0) h.3.1 h.3.2
+      let f = fields-of h.0 h.2 in
+      sib (mode_field h.0) (reg_field h.0) (rm_field h.0) h.1 h.3.0 four f.1 f.2 f.3 (h.4 ∙ ap (λ (m : ℕ). m ∷ h.1) f.0) h.3.1 h.3.2
 
   sib-back : (mode rm : ℕ) → rm ≡ 4 → (bs : List ℕ) (mem : Mem) → IsMemory gs rex mode rm bs mem → ByteThen (SibTail mode) bs mem
   sib-back mode rm four bs mem (no_sib disp other x num is) = absurd (other four)
   sib-back mode rm four bs mem (sib scale index field rest disp four' hs hi hf bytes num is) =
-    let s : ℕ = 64 * scale + 8 * index + field in
-    let f = fields-back scale index field hs hi hf in
-    let num' : IsSigned (disp_bytes mode (rm_field s)) rest disp = subst (λ (k : ℕ). IsSigned (disp_bytes mode k) rest disp) (sym f.2) num in
-    let is' : mem ≡ sib_mem mode s disp =
-        is ∙ ap (λ (k : ℕ). record { gs = gs; base = base_of base.Absent rex mode k; index = index_of rex scale index; disp = disp }) (sym f.2)
-           ∙ ap (λ (k : ℕ). record { gs = gs; base = base_of base.Absent rex mode (rm_field s); index = index_of rex k index; disp = disp }) (sym f.0)
-           ∙ ap (λ (k : ℕ). record { gs = gs; base = base_of base.Absent rex mode (rm_field s); index = index_of rex (mode_field s) k; disp = disp }) (sym f.1) in
-    (s, rest, f.3, (disp, num', is'), bytes)
+      let s : ℕ = 64 * scale + 8 * index + field in
+      let f = fields-back scale index field hs hi hf in
+      let num' : IsSigned (disp_bytes mode (rm_field s)) rest disp = subst (λ (k : ℕ). IsSigned (disp_bytes mode k) rest disp) (sym f.2) num in
+      let is' : mem ≡ sib_mem mode s disp =
+      is ∙ ap (λ (k : ℕ). record { gs = gs; base = base_of base.Absent rex mode k; index = index_of rex scale index; disp = disp }) (sym f.2)
+      ∙ ap (λ (k : ℕ). record { gs = gs; base = base_of base.Absent rex mode (rm_field s); index = index_of rex k index; disp = disp }) (sym f.0)
+      ∙ ap (λ (k : ℕ). record { gs = gs; base = base_of base.Absent rex mode (rm_field s); index = index_of rex (mode_field s) k; disp = disp }) (sym f.1) in
+      (s, rest, f.3, (disp, num', is'), bytes)
 
   abbrev PlainTail : ℕ → ℕ → List ℕ → Mem → Type 0
   PlainTail mode rm bs mem = (d : ℤ) × IsSigned (disp_bytes mode rm) bs d × (mem ≡ plain_mem mode rm d)
@@ -100,15 +100,15 @@ module _ (gs : Bool) (rex : Option Rex) where
   pub exact-memory : (mode rm : ℕ) → Exact is_short (memory_at gs rex mode rm) (IsMemory gs rex mode rm)
   unfolding memory_at
   exact-memory mode rm =
-    exact-cases is_short (eqb rm 4) (sib_at gs rex mode) (λ bs. cond (x_bit rex) (Err Unknown) (no_sib_at gs rex mode rm bs)) (IsMemory gs rex mode rm)
+      exact-cases is_short (eqb rm 4) (sib_at gs rex mode) (λ bs. cond (x_bit rex) (Err Unknown) (no_sib_at gs rex mode rm bs)) (IsMemory gs rex mode rm)
       (λ e. let four : rm ≡ 4 = eqb-true rm 4 e in
-        exact-words is_short (sib_at gs rex mode) (ByteThen (SibTail mode)) (IsMemory gs rex mode rm) (exact-sib mode) (sib-to mode rm four) (sib-back mode rm four))
+      exact-words is_short (sib_at gs rex mode) (ByteThen (SibTail mode)) (IsMemory gs rex mode rm) (exact-sib mode) (sib-to mode rm four) (sib-back mode rm four))
       (λ e. let other : rm ≡ 4 → ⊥ = eqb-false rm 4 e in
-        exact-cases is_short (x_bit rex) (λ bs. Err Unknown) (no_sib_at gs rex mode rm) (IsMemory gs rex mode rm)
-          (λ x. exact-words is_short (λ bs. Err Unknown) (λ bs mem. ⊥) (IsMemory gs rex mode rm) (exact-none is_short Unknown refl)
-            (λ bs mem h. absurd h) (λ bs mem h. no_sib-x mode rm other x bs mem h))
-          (λ x. exact-words is_short (no_sib_at gs rex mode rm) (PlainTail mode rm) (IsMemory gs rex mode rm) (exact-no_sib mode rm)
-            (λ bs mem h. no_sib h.0 other x h.1 h.2) (no_sib-back mode rm other)))
+      exact-cases is_short (x_bit rex) (λ bs. Err Unknown) (no_sib_at gs rex mode rm) (IsMemory gs rex mode rm)
+      (λ x. exact-words is_short (λ bs. Err Unknown) (λ bs mem. ⊥) (IsMemory gs rex mode rm) (exact-none is_short Unknown refl)
+      (λ bs mem h. absurd h) (λ bs mem h. no_sib-x mode rm other x bs mem h))
+      (λ x. exact-words is_short (no_sib_at gs rex mode rm) (PlainTail mode rm) (IsMemory gs rex mode rm) (exact-no_sib mode rm)
+      (λ bs mem h. no_sib h.0 other x h.1 h.2) (no_sib-back mode rm other)))
 
   -- ---- any operand rm
 
@@ -118,6 +118,7 @@ module _ (gs : Bool) (rex : Option Rex) where
       or-left : (a b : Bool) → (a || b) ≡ false → a ≡ false
       or-left true b e = e
       or-left false b e = refl
+
       or-right : (a b : Bool) → (a || b) ≡ false → b ≡ false
       or-right true b e = absurd cc
       or-right false b e = e
@@ -136,21 +137,21 @@ module _ (gs : Bool) (rex : Option Rex) where
   pub exact-rm : (mode rm : ℕ) → mode < 4 → Exact is_short (rm_at gs rex mode rm) (IsRm gs rex mode rm)
   unfolding rm_at
   exact-rm mode rm range =
-    exact-cases is_short (eqb mode 3)
+      exact-cases is_short (eqb mode 3)
       (λ bs. cond (gs || x_bit rex) (Err Unknown) (Ok (place.Reg (extended (b_bit rex) rm), bs)))
       (λ bs. memory_at gs rex mode rm bs >>= λ m. Ok (place.Mem m.0, m.1))
       (IsRm gs rex mode rm)
       (λ e. let three : mode ≡ 3 = eqb-true mode 3 e in
-        exact-cases is_short (gs || x_bit rex) (λ bs. Err Unknown) (λ bs. Ok (place.Reg (extended (b_bit rex) rm), bs)) (IsRm gs rex mode rm)
-          (λ some. exact-words is_short (λ bs. Err Unknown) (λ bs p. ⊥) (IsRm gs rex mode rm) (exact-none is_short Unknown refl)
-            (λ bs p h. absurd h) (λ bs p h. let clash : true ≡ false = sym some ∙ (register-back mode rm three bs p h).1 in cc))
-          (λ none. exact-words is_short (λ bs. Ok (place.Reg (extended (b_bit rex) rm), bs)) (λ bs p. (bs ≡ []) × (p ≡ place.Reg (extended (b_bit rex) rm))) (IsRm gs rex mode rm)
-            (exact-pure is_short (place.Reg (extended (b_bit rex) rm))) (register-to mode rm three none) (λ bs p h. (register-back mode rm three bs p h).0)))
+      exact-cases is_short (gs || x_bit rex) (λ bs. Err Unknown) (λ bs. Ok (place.Reg (extended (b_bit rex) rm), bs)) (IsRm gs rex mode rm)
+      (λ some. exact-words is_short (λ bs. Err Unknown) (λ bs p. ⊥) (IsRm gs rex mode rm) (exact-none is_short Unknown refl)
+      (λ bs p h. absurd h) (λ bs p h. let clash : true ≡ false = sym some ∙ (register-back mode rm three bs p h).1 in cc))
+      (λ none. exact-words is_short (λ bs. Ok (place.Reg (extended (b_bit rex) rm), bs)) (λ bs p. (bs ≡ []) × (p ≡ place.Reg (extended (b_bit rex) rm))) (IsRm gs rex mode rm)
+      (exact-pure is_short (place.Reg (extended (b_bit rex) rm))) (register-to mode rm three none) (λ bs p h. (register-back mode rm three bs p h).0)))
       (λ e. let other : mode ≡ 3 → ⊥ = eqb-false mode 3 e in
-        let below : mode < 3 = omega arith in
-        exact-words is_short (λ bs. memory_at gs rex mode rm bs >>= λ m. Ok (place.Mem m.0, m.1)) (λ bs p. (mem : Mem) × IsMemory gs rex mode rm bs mem × (p ≡ place.Mem mem)) (IsRm gs rex mode rm)
-          (exact-map is_short (memory_at gs rex mode rm) (IsMemory gs rex mode rm) place.Mem (exact-memory mode rm))
-          (memory-to mode rm below) (memory-back mode rm below))
+      let below : mode < 3 = omega arith in
+      exact-words is_short (λ bs. memory_at gs rex mode rm bs >>= λ m. Ok (place.Mem m.0, m.1)) (λ bs p. (mem : Mem) × IsMemory gs rex mode rm bs mem × (p ≡ place.Mem mem)) (IsRm gs rex mode rm)
+      (exact-map is_short (memory_at gs rex mode rm) (IsMemory gs rex mode rm) place.Mem (exact-memory mode rm))
+      (memory-to mode rm below) (memory-back mode rm below))
 
   -- ---- the ModRM byte and its operand
 
@@ -166,45 +167,45 @@ module _ (gs : Bool) (rex : Option Rex) where
   ModRmTail form m bs x = (p : Place) × IsRm gs rex (mode_field m) (rm_field m) bs p × (x ≡ (reg_field m, p)) × (takes_modrm form rex (mode_field m) (reg_field m) (rm_field m) ≡ true)
 
   exact-modrm : (form : Form) (m : ℕ) → m < 256
-    → Exact is_short (λ bs. cond (takes_modrm form rex (mode_field m) (reg_field m) (rm_field m)) (rm_at gs rex (mode_field m) (rm_field m) bs >>= λ p. Ok ((reg_field m, p.0), p.1)) (Err Unknown)) (ModRmTail form m)
+      → Exact is_short (λ bs. cond (takes_modrm form rex (mode_field m) (reg_field m) (rm_field m)) (rm_at gs rex (mode_field m) (rm_field m) bs >>= λ p. Ok ((reg_field m, p.0), p.1)) (Err Unknown)) (ModRmTail form m)
   exact-modrm form m fits =
-    exact-cases is_short (takes_modrm form rex (mode_field m) (reg_field m) (rm_field m))
+      exact-cases is_short (takes_modrm form rex (mode_field m) (reg_field m) (rm_field m))
       (λ bs. rm_at gs rex (mode_field m) (rm_field m) bs >>= λ p. Ok ((reg_field m, p.0), p.1)) (λ bs. Err Unknown) (ModRmTail form m)
       (λ takes. exact-words is_short (λ bs. rm_at gs rex (mode_field m) (rm_field m) bs >>= λ p. Ok ((reg_field m, p.0), p.1))
-        (λ bs x. (p : Place) × IsRm gs rex (mode_field m) (rm_field m) bs p × (x ≡ (reg_field m, p))) (ModRmTail form m)
-        (exact-map is_short (rm_at gs rex (mode_field m) (rm_field m)) (IsRm gs rex (mode_field m) (rm_field m)) (λ (p : Place). (reg_field m, p)) (exact-rm (mode_field m) (rm_field m) (fields-of m fits).1))
-        (λ bs x h. (h.0, h.1, h.2, takes)) (λ bs x h. (h.0, h.1, h.2)))
+      (λ bs x. (p : Place) × IsRm gs rex (mode_field m) (rm_field m) bs p × (x ≡ (reg_field m, p))) (ModRmTail form m)
+      (exact-map is_short (rm_at gs rex (mode_field m) (rm_field m)) (IsRm gs rex (mode_field m) (rm_field m)) (λ (p : Place). (reg_field m, p)) (exact-rm (mode_field m) (rm_field m) (fields-of m fits).1))
+      (λ bs x h. (h.0, h.1, h.2, takes)) (λ bs x h. (h.0, h.1, h.2)))
       (λ none. exact-words is_short (λ bs. Err Unknown) (λ bs x. ⊥) (ModRmTail form m) (exact-none is_short Unknown refl)
-        (λ bs x h. absurd h) (λ bs x h. let clash : true ≡ false = sym h.3 ∙ none in cc))
+      (λ bs x h. absurd h) (λ bs x h. let clash : true ≡ false = sym h.3 ∙ none in cc))
 
   operand-to : (form : Form) (bs : List ℕ) (x : ℕ × Place) → ByteThen (ModRmTail form) bs x → Taken form bs x
   operand-to form bs x h =
-    let m = h.0 in
-    let f = fields-of m h.2 in
-    let made : Taken form bs (reg_field m, h.3.0) =
-        (record { mode = mode_field m; rm = rm_field m; rest = h.1; mode_range = f.1; reg_range = f.2; rm_range = f.3; modrm = h.4 ∙ ap (λ (k : ℕ). k ∷ h.1) f.0; operand_is = h.3.1 }, h.3.3) in
-    subst (λ (y : ℕ × Place). Taken form bs y) (sym h.3.2) made
+      let m = h.0 in
+      let f = fields-of m h.2 in
+      let made : Taken form bs (reg_field m, h.3.0) =
+      (record { mode = mode_field m; rm = rm_field m; rest = h.1; mode_range = f.1; reg_range = f.2; rm_range = f.3; modrm = h.4 ∙ ap (λ (k : ℕ). k ∷ h.1) f.0; operand_is = h.3.1 }, h.3.3) in
+      subst (λ (y : ℕ × Place). Taken form bs y) (sym h.3.2) made
 
   operand-back : (form : Form) (bs : List ℕ) (x : ℕ × Place) → Taken form bs x → ByteThen (ModRmTail form) bs x
   operand-back form bs x h =
-    let o = h.0 in
-    let m : ℕ = 64 * o.mode + 8 * x.0 + o.rm in
-    let f = fields-back o.mode x.0 o.rm o.mode_range o.reg_range o.rm_range in
-    let rm1 : IsRm gs rex (mode_field m) o.rm o.rest x.1 = subst (λ (k : ℕ). IsRm gs rex k o.rm o.rest x.1) (sym f.0) o.operand_is in
-    let rm2 : IsRm gs rex (mode_field m) (rm_field m) o.rest x.1 = subst (λ (k : ℕ). IsRm gs rex (mode_field m) k o.rest x.1) (sym f.2) rm1 in
-    let takes : takes_modrm form rex (mode_field m) (reg_field m) (rm_field m) ≡ true =
-        ap (λ (k : ℕ). takes_modrm form rex k (reg_field m) (rm_field m)) f.0 ∙ ap (λ (k : ℕ). takes_modrm form rex o.mode k (rm_field m)) f.1 ∙ ap (λ (k : ℕ). takes_modrm form rex o.mode x.0 k) f.2 ∙ h.1 in
-    (m, o.rest, f.3, (x.1, rm2, ap (λ (k : ℕ). (k, x.1)) (sym f.1), takes), o.modrm)
+      let o = h.0 in
+      let m : ℕ = 64 * o.mode + 8 * x.0 + o.rm in
+      let f = fields-back o.mode x.0 o.rm o.mode_range o.reg_range o.rm_range in
+      let rm1 : IsRm gs rex (mode_field m) o.rm o.rest x.1 = subst (λ (k : ℕ). IsRm gs rex k o.rm o.rest x.1) (sym f.0) o.operand_is in
+      let rm2 : IsRm gs rex (mode_field m) (rm_field m) o.rest x.1 = subst (λ (k : ℕ). IsRm gs rex (mode_field m) k o.rest x.1) (sym f.2) rm1 in
+      let takes : takes_modrm form rex (mode_field m) (reg_field m) (rm_field m) ≡ true =
+      ap (λ (k : ℕ). takes_modrm form rex k (reg_field m) (rm_field m)) f.0 ∙ ap (λ (k : ℕ). takes_modrm form rex o.mode k (rm_field m)) f.1 ∙ ap (λ (k : ℕ). takes_modrm form rex o.mode x.0 k) f.2 ∙ h.1 in
+      (m, o.rest, f.3, (x.1, rm2, ap (λ (k : ℕ). (k, x.1)) (sym f.1), takes), o.modrm)
 
   pub exact-operand : (form : Form) → SomeOperand form → Exact is_short (operand_at form gs rex) (Taken form)
   unfolding operand_at
   exact-operand form some =
-    exact-words is_short (operand_at form gs rex) (ByteThen (ModRmTail form)) (Taken form)
+      exact-words is_short (operand_at form gs rex) (ByteThen (ModRmTail form)) (Taken form)
       (exact-byte is_short Short refl
-        (λ m bs. cond (takes_modrm form rex (mode_field m) (reg_field m) (rm_field m)) (rm_at gs rex (mode_field m) (rm_field m) bs >>= λ p. Ok ((reg_field m, p.0), p.1)) (Err Unknown))
-        (ModRmTail form) (λ m fits. exact-modrm form m fits)
-        (let start : Taken form ((64 * some.0 + 8 * some.1 + some.2) ∷ some.3) (some.1, some.4) =
-            (record { mode = some.0; rm = some.2; rest = some.3; mode_range = some.5; reg_range = some.6; rm_range = some.7; modrm = refl; operand_is = some.9 }, some.8) in
-         let b = operand-back form ((64 * some.0 + 8 * some.1 + some.2) ∷ some.3) (some.1, some.4) start in
-         (b.0, b.1, (some.1, some.4), b.2, b.3)))
+      (λ m bs. cond (takes_modrm form rex (mode_field m) (reg_field m) (rm_field m)) (rm_at gs rex (mode_field m) (rm_field m) bs >>= λ p. Ok ((reg_field m, p.0), p.1)) (Err Unknown))
+      (ModRmTail form) (λ m fits. exact-modrm form m fits)
+      (let start : Taken form ((64 * some.0 + 8 * some.1 + some.2) ∷ some.3) (some.1, some.4) =
+      (record { mode = some.0; rm = some.2; rest = some.3; mode_range = some.5; reg_range = some.6; rm_range = some.7; modrm = refl; operand_is = some.9 }, some.8) in
+      let b = operand-back form ((64 * some.0 + 8 * some.1 + some.2) ∷ some.3) (some.1, some.4) start in
+      (b.0, b.1, (some.1, some.4), b.2, b.3)))
       (operand-to form) (operand-back form)

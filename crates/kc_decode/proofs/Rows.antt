@@ -67,10 +67,13 @@ pub rows-apart : (first count op : ℕ) (rest : Bool) → ((leb (first + count) 
 rows-apart first count op rest h ge lt =
     let a = and-left (leb (first + count) 64 || leb 80 first) (leb (first + count) 256 && rest) h in
     let b = and-left (leb (first + count) 256) rest (and-right (leb (first + count) 64 || leb 80 first) (leb (first + count) 256 && rest) h) in
-    let top : first + count ≤ 256 = leb-true (first + count) 256 b in
-    (elim (or-cases (leb (first + count) 64) (leb 80 first) a) [
-       | inl l ↦ let below : first + count ≤ 64 = leb-true (first + count) 64 l in inl (omega arith)
-       | inr r ↦ let above : 80 ≤ first = leb-true 80 first r in inr (omega arith) ], omega arith)
+    let top : first + count ≤ 256 = leb-true (first + count) 256 b in (
+      elim (or-cases (leb (first + count) 64) (leb 80 first) a) [
+        | inl l ↦ let below : first + count ≤ 64 = leb-true (first + count) 64 l in inl (omega arith)
+        | inr r ↦ let above : 80 ≤ first = leb-true 80 first r in inr (omega arith)
+      ],
+      omega arith,
+    )
 
 pub lookup-apart : (rs : List Row) (op : ℕ) (form : Form) → keys_apart rs ≡ true → lookup op rs ≡ Some form → Apart op
 lookup-apart [] op form all e = absurd cc

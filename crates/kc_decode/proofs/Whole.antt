@@ -67,7 +67,7 @@ first-one : (b : ℕ) (bs : List ℕ) (d : Draft) (rex : Option Rex) (rex_bytes 
 first-one b bs d None rex_bytes op form tail eq is look fits t =
     let e = heads b op bs tail (eq ∙ ap (λ (x : List ℕ). x ++ op ∷ tail) is) in
     plain_first (λ k. no-row 0x65 op form gs-no_row look (sym e.0 ∙ k)) (λ k. no-row 0xF3 op form f3-no_row look (sym e.0 ∙ k)) (λ k. no-row 0x66 op form pad-no_row look (sym e.0 ∙ k)) (λ k. no-row 0x2E op form cs-no_row look (sym e.0 ∙ k))
-      (one None rex_bytes op form tail eq is look fits t)
+    (one None rex_bytes op form tail eq is look fits t)
 first-one b bs d (Some rex) rex_bytes op form tail eq is look fits t =
     let e = heads b (rex_byte rex) bs (op ∷ tail) (eq ∙ ap (λ (x : List ℕ). x ++ op ∷ tail) is) in
     let k = rex-range b rex e.0 in
@@ -136,8 +136,8 @@ unfolding behind_65_at
 exact-behind_65 =
     let m = mov-opened true in
     exact-words is_short behind_65_at (ByteThen (λ b back y. Opened true (b ∷ back) y)) (Opened true)
-      (exact-byte is_short Short refl (λ b bs. plain_at true b bs) (λ b back y. Opened true (b ∷ back) y) (λ b fits. exact-plain true b) (0x89, m.0, m.1, lit< tt, m.2))
-      (λ bs d h. subst (λ (t : List ℕ). Opened true t d) (sym h.4) h.3) (opened-split true)
+    (exact-byte is_short Short refl (λ b bs. plain_at true b bs) (λ b back y. Opened true (b ∷ back) y) (λ b fits. exact-plain true b) (0x89, m.0, m.1, lit< tt, m.2))
+    (λ bs d h. subst (λ (t : List ℕ). Opened true t d) (sym h.4) h.3) (opened-split true)
 
 -- what one branch has of an instruction that begins with b
 only-gs : (b : ℕ) (bs : List ℕ) (d : Draft) → b ≡ 0x65 → First b bs d → Opened true bs d
@@ -178,20 +178,20 @@ only-plain b bs d m1 m2 m3 m4 (plain_first n1 n2 n3 n4 h) = h
 exact-first : (b : ℕ) → Exact is_short (λ bs. cond (eqb b 0x65) (behind_65_at bs) (cond (eqb b 0xF3) (f3_at bs) (cond (eqb b 0x66) (behind_66_at bs) (cond (eqb b 0x2E) (behind_2e_at bs) (plain_at false b bs))))) (First b)
 exact-first b =
     exact-cases is_short (eqb b 0x65) behind_65_at (λ bs. cond (eqb b 0xF3) (f3_at bs) (cond (eqb b 0x66) (behind_66_at bs) (cond (eqb b 0x2E) (behind_2e_at bs) (plain_at false b bs)))) (First b)
-      (λ e. let is = eqb-true b 0x65 e in
-        exact-words is_short behind_65_at (Opened true) (First b) exact-behind_65 (λ bs d h. gs_first is h) (λ bs d h. only-gs b bs d is h))
-      (λ e1. exact-cases is_short (eqb b 0xF3) f3_at (λ bs. cond (eqb b 0x66) (behind_66_at bs) (cond (eqb b 0x2E) (behind_2e_at bs) (plain_at false b bs))) (First b)
-        (λ e. let is = eqb-true b 0xF3 e in
-          exact-words is_short f3_at F3Spelled (First b) exact-f3 (λ bs d h. f3_first is h) (λ bs d h. only-f3 b bs d is h))
-        (λ e2. exact-cases is_short (eqb b 0x66) behind_66_at (λ bs. cond (eqb b 0x2E) (behind_2e_at bs) (plain_at false b bs)) (First b)
-          (λ e. let is = eqb-true b 0x66 e in
-            exact-words is_short behind_66_at Behind66 (First b) exact-behind_66 (λ bs d h. pad_first is h) (λ bs d h. only-pad b bs d is h))
-          (λ e3. exact-cases is_short (eqb b 0x2E) behind_2e_at (plain_at false b) (First b)
-            (λ e. let is = eqb-true b 0x2E e in
-              exact-words is_short behind_2e_at NopSpelled (First b) exact-behind_2e (λ bs d h. cs_first is h) (λ bs d h. only-cs b bs d is h))
-            (λ e4. let m1 = eqb-false b 0x65 e1 in let m2 = eqb-false b 0xF3 e2 in let m3 = eqb-false b 0x66 e3 in let m4 = eqb-false b 0x2E e4 in
-              exact-words is_short (plain_at false b) (λ bs d. Opened false (b ∷ bs) d) (First b) (exact-plain false b)
-                (λ bs d h. plain_first m1 m2 m3 m4 h) (λ bs d h. only-plain b bs d m1 m2 m3 m4 h)))))
+    (λ e. let is = eqb-true b 0x65 e in
+    exact-words is_short behind_65_at (Opened true) (First b) exact-behind_65 (λ bs d h. gs_first is h) (λ bs d h. only-gs b bs d is h))
+    (λ e1. exact-cases is_short (eqb b 0xF3) f3_at (λ bs. cond (eqb b 0x66) (behind_66_at bs) (cond (eqb b 0x2E) (behind_2e_at bs) (plain_at false b bs))) (First b)
+    (λ e. let is = eqb-true b 0xF3 e in
+    exact-words is_short f3_at F3Spelled (First b) exact-f3 (λ bs d h. f3_first is h) (λ bs d h. only-f3 b bs d is h))
+    (λ e2. exact-cases is_short (eqb b 0x66) behind_66_at (λ bs. cond (eqb b 0x2E) (behind_2e_at bs) (plain_at false b bs)) (First b)
+    (λ e. let is = eqb-true b 0x66 e in
+    exact-words is_short behind_66_at Behind66 (First b) exact-behind_66 (λ bs d h. pad_first is h) (λ bs d h. only-pad b bs d is h))
+    (λ e3. exact-cases is_short (eqb b 0x2E) behind_2e_at (plain_at false b) (First b)
+    (λ e. let is = eqb-true b 0x2E e in
+    exact-words is_short behind_2e_at NopSpelled (First b) exact-behind_2e (λ bs d h. cs_first is h) (λ bs d h. only-cs b bs d is h))
+    (λ e4. let m1 = eqb-false b 0x65 e1 in let m2 = eqb-false b 0xF3 e2 in let m3 = eqb-false b 0x66 e3 in let m4 = eqb-false b 0x2E e4 in
+    exact-words is_short (plain_at false b) (λ bs d. Opened false (b ∷ bs) d) (First b) (exact-plain false b)
+    (λ bs d h. plain_first m1 m2 m3 m4 h) (λ bs d h. only-plain b bs d m1 m2 m3 m4 h)))))
 
 -- ---- all of it
 
@@ -222,6 +222,6 @@ unfolding draft_at
 exact-draft =
     let m = mov-opened false in
     exact-words is_short draft_at (ByteThen First) Spelled
-      (exact-byte is_short Short refl (λ b bs. cond (eqb b 0x65) (behind_65_at bs) (cond (eqb b 0xF3) (f3_at bs) (cond (eqb b 0x66) (behind_66_at bs) (cond (eqb b 0x2E) (behind_2e_at bs) (plain_at false b bs)))))
-        First (λ b fits. exact-first b) (0x89, m.0, m.1, lit< tt, plain_first (λ e. omega arith) (λ e. omega arith) (λ e. omega arith) (λ e. omega arith) m.2))
-      (λ bs d h. subst (λ (t : List ℕ). Spelled t d) (sym h.4) (first-to h.0 h.1 d h.3)) spelled-split
+    (exact-byte is_short Short refl (λ b bs. cond (eqb b 0x65) (behind_65_at bs) (cond (eqb b 0xF3) (f3_at bs) (cond (eqb b 0x66) (behind_66_at bs) (cond (eqb b 0x2E) (behind_2e_at bs) (plain_at false b bs)))))
+    First (λ b fits. exact-first b) (0x89, m.0, m.1, lit< tt, plain_first (λ e. omega arith) (λ e. omega arith) (λ e. omega arith) (λ e. omega arith) m.2))
+    (λ bs d h. subst (λ (t : List ℕ). Spelled t d) (sym h.4) (first-to h.0 h.1 d h.3)) spelled-split

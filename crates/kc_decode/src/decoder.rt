@@ -11,7 +11,7 @@ ghost use Rattle.kc_decode.specs.declared.fault.DecodeFault.TheVariants.{Unknown
 use crate::draft::Draft;
 use crate::fault::DecodeFault;
 use crate::form::Jump;
-use crate::length::{fits, MAX_LENGTH};
+use crate::length::{MAX_LENGTH, fits};
 use crate::reading::draft;
 use kc_insn::Insn;
 
@@ -78,5 +78,4 @@ pub fn decode(bytes: &[u8], at: u64) -> Result<(Insn, u8), DecodeFault>
 /// one instruction at an address.
 pub fn one_reading()
     ensures { (a b x y : List ℕ) (at : ℕ) (i j : InsnValue) → Spells a at i → Spells b at j → a ++ x ≡ b ++ y → (a ≡ b) × (i ≡ j) }
-{
-}
+{}

@@ -37,9 +37,7 @@ fn least_operand(x: bool, bytes: &[u8]) -> usize
     ensures small { result ≤ 6 }
 {
     match bytes {
-        [] => {
-            if x { 2 } else { 1 }
-        }
+        [] => { if x { 2 } else { 1 } }
         [modrm, rest @ ..] => {
             if *modrm / 64 == 3 {
                 1
@@ -121,7 +119,11 @@ pub fn fits(bytes: &[u8]) -> bool
         [] => true,
         [b, rest @ ..] => {
             if *b == 0x66 {
-                if rest.is_empty() { true } else { padded_within(rest, MAX_LENGTH - 1) }
+                if rest.is_empty() {
+                    true
+                } else {
+                    padded_within(rest, MAX_LENGTH - 1)
+                }
             } else if *b == 0x2E {
                 least_nop(rest) < MAX_LENGTH
             } else {

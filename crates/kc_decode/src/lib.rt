@@ -16,3 +16,6 @@ mod tail;
 
 pub use decoder::{decode, one_reading};
 pub use fault::DecodeFault;
+
+#[cfg(test)]
+mod tests;

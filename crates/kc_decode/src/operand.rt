@@ -104,7 +104,15 @@ fn sib(head: Head, mode: u8, bytes: &[u8]) -> Result<(Mem, &[u8]), DecodeFault>
     let (disp, rest) = displacement(disp_size(mode, sib % 8), rest)?;
     let base = base_of(Base::Absent, head.rex, mode, sib % 8);
     let index = index_of(head.rex, sib / 64, sib / 8 % 8);
-    Ok((Mem { gs: head.gs, base, index, disp }, rest))
+    Ok((
+        Mem {
+            gs: head.gs,
+            base,
+            index,
+            disp,
+        },
+        rest,
+    ))
 }
 
 #[tactic(auto, unfolding(crate::specs::Reading::no_sib_at))]
@@ -114,7 +122,15 @@ fn no_sib(head: Head, mode: u8, rm: u8, bytes: &[u8]) -> Result<(Mem, &[u8]), De
 {
     let (disp, rest) = displacement(disp_size(mode, rm), bytes)?;
     let base = base_of(Base::Rip, head.rex, mode, rm);
-    Ok((Mem { gs: head.gs, base, index: None, disp }, rest))
+    Ok((
+        Mem {
+            gs: head.gs,
+            base,
+            index: None,
+            disp,
+        },
+        rest,
+    ))
 }
 
 #[tactic(auto, unfolding(crate::specs::Reading::memory_at))]
@@ -188,10 +204,18 @@ pub fn group_insn(group: Group, reg: u8, w: Width, rm: Place, source: Source) ->
 {
     match group {
         Group::Mov => {
-            if reg == 0 { Some(Insn::Mov(w, rm, source)) } else { None }
+            if reg == 0 {
+                Some(Insn::Mov(w, rm, source))
+            } else {
+                None
+            }
         }
         Group::Test => {
-            if reg == 0 { Some(Insn::Test(w, rm, source)) } else { None }
+            if reg == 0 {
+                Some(Insn::Test(w, rm, source))
+            } else {
+                None
+            }
         }
         Group::Alu => match alu_op(reg) {
             Some(op) => Some(Insn::Alu(op, w, rm, source)),
@@ -229,11 +253,7 @@ fn takes_modrm(form: Form, rex: Option<Rex>, mode: u8, reg: u8, rm: u8) -> bool
 
 /// The reg field and the operand rm of a form.
 #[tactic(auto, unfolding(crate::specs::Reading::operand_at))]
-pub fn operand(
-    form: Form,
-    head: Head,
-    bytes: &[u8],
-) -> Result<((u8, Place), &[u8]), DecodeFault>
+pub fn operand(form: Form, head: Head, bytes: &[u8]) -> Result<((u8, Place), &[u8]), DecodeFault>
     ensures read { Gives (λ x. (x.0, x.1.now)) result (operand_at (form_of form) head.gs head.rex bytes.now) }
     ensures field { IfOk result (λ x. x.0.0 < 8) }
 {

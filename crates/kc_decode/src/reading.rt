@@ -71,7 +71,14 @@ fn plain(gs: bool, b: u8, bytes: &[u8]) -> Result<(Draft, &[u8]), DecodeFault>
 {
     if is_rex(b) {
         let (op, rest) = byte(bytes)?;
-        opcode(Head { gs, rex: Some(rex_of(b)) }, op, rest)
+        opcode(
+            Head {
+                gs,
+                rex: Some(rex_of(b)),
+            },
+            op,
+            rest,
+        )
     } else {
         opcode(Head { gs, rex: None }, b, bytes)
     }

@@ -13,7 +13,7 @@ use crate::fault::DecodeFault;
 use crate::fields::{byte, extended, number1, number4, number8, rex_b, rex_r, rex_w, width_of};
 use crate::form::{Form, Group, Jump, Last, Pair, Size};
 use crate::immediate::immediate;
-use crate::operand::{bit_op, displacement, group_insn, operand, Disp, Head};
+use crate::operand::{Disp, Head, bit_op, displacement, group_insn, operand};
 use kc_insn::{AluOp, Insn, Place, Reg, Source};
 use kc_words::Width;
 
@@ -48,10 +48,18 @@ fn last_insn(last: Last, byte: u8) -> Option<Insn>
             _ => None,
         },
         Last::Lfence => {
-            if byte == 0xE8 { Some(Insn::Lfence) } else { None }
+            if byte == 0xE8 {
+                Some(Insn::Lfence)
+            } else {
+                None
+            }
         }
         Last::Endbr64 => {
-            if byte == 0xFA { Some(Insn::Endbr64) } else { None }
+            if byte == 0xFA {
+                Some(Insn::Endbr64)
+            } else {
+                None
+            }
         }
     }
 }
@@ -82,11 +90,17 @@ fn register_imm(r: u8, head: Head, bytes: &[u8]) -> Result<(Draft, &[u8]), Decod
     if rex_w(head.rex) {
         let (number, rest) = number8(bytes)?;
         let source = Source::Imm(number.cast_signed());
-        return Ok((Draft::Whole(Insn::Mov(width_of(head.rex), place, source)), rest));
+        return Ok((
+            Draft::Whole(Insn::Mov(width_of(head.rex), place, source)),
+            rest,
+        ));
     }
     let (number, rest) = number4(bytes)?;
     let source = Source::Imm(i64::from(number));
-    Ok((Draft::Whole(Insn::Mov(width_of(head.rex), place, source)), rest))
+    Ok((
+        Draft::Whole(Insn::Mov(width_of(head.rex), place, source)),
+        rest,
+    ))
 }
 
 #[tactic(auto, unfolding(crate::specs::Reading::tail_at))]
@@ -95,7 +109,10 @@ fn rm_reg(pair: Pair, head: Head, bytes: &[u8]) -> Result<(Draft, &[u8]), Decode
 {
     let ((reg, rm), rest) = operand(Form::RmReg(pair), head, bytes)?;
     let reg = extended(rex_r(head.rex), reg);
-    Ok((Draft::Whole(pair_insn(pair, width_of(head.rex), rm, reg)), rest))
+    Ok((
+        Draft::Whole(pair_insn(pair, width_of(head.rex), rm, reg)),
+        rest,
+    ))
 }
 
 #[tactic(auto, unfolding(crate::specs::Reading::tail_at))]
@@ -104,7 +121,10 @@ fn mov_load(head: Head, bytes: &[u8]) -> Result<(Draft, &[u8]), DecodeFault>
 {
     let ((reg, rm), rest) = operand(Form::MovLoad, head, bytes)?;
     let reg = Place::Reg(extended(rex_r(head.rex), reg));
-    Ok((Draft::Whole(Insn::Mov(width_of(head.rex), reg, source_of(rm))), rest))
+    Ok((
+        Draft::Whole(Insn::Mov(width_of(head.rex), reg, source_of(rm))),
+        rest,
+    ))
 }
 
 #[tactic(auto, unfolding(crate::specs::Reading::tail_at))]
@@ -113,7 +133,10 @@ fn alu_load(op: AluOp, head: Head, bytes: &[u8]) -> Result<(Draft, &[u8]), Decod
 {
     let ((reg, rm), rest) = operand(Form::AluLoad(op), head, bytes)?;
     let reg = Place::Reg(extended(rex_r(head.rex), reg));
-    Ok((Draft::Whole(Insn::Alu(op, width_of(head.rex), reg, source_of(rm))), rest))
+    Ok((
+        Draft::Whole(Insn::Alu(op, width_of(head.rex), reg, source_of(rm))),
+        rest,
+    ))
 }
 
 #[tactic(auto, unfolding(crate::specs::Reading::tail_at))]
@@ -146,7 +169,10 @@ fn test_byte(head: Head, bytes: &[u8]) -> Result<(Draft, &[u8]), DecodeFault>
 {
     let ((_, rm), rest) = operand(Form::TestByte, head, bytes)?;
     let (value, rest) = immediate(Width::Byte, Size::One, rest)?;
-    Ok((Draft::Whole(Insn::Test(Width::Byte, rm, Source::Imm(value))), rest))
+    Ok((
+        Draft::Whole(Insn::Test(Width::Byte, rm, Source::Imm(value))),
+        rest,
+    ))
 }
 
 fn bit_insn(reg: u8, w: Width, rm: Place, bit: u8) -> Option<Insn>
@@ -198,7 +224,14 @@ fn read_cr3(head: Head, bytes: &[u8]) -> Result<(Draft, &[u8]), DecodeFault>
 {
     let ((reg, rm), rest) = operand(Form::ReadCr3, head, bytes)?;
     match rm {
-        Place::Reg(r) => made(if reg == 3 { Some(Insn::ReadCr3(r)) } else { None }, rest),
+        Place::Reg(r) => made(
+            if reg == 3 {
+                Some(Insn::ReadCr3(r))
+            } else {
+                None
+            },
+            rest,
+        ),
         Place::Mem(_) => Err(DecodeFault::Unknown),
     }
 }
@@ -209,7 +242,14 @@ fn write_cr3(head: Head, bytes: &[u8]) -> Result<(Draft, &[u8]), DecodeFault>
 {
     let ((reg, rm), rest) = operand(Form::WriteCr3, head, bytes)?;
     match rm {
-        Place::Reg(r) => made(if reg == 3 { Some(Insn::WriteCr3(r)) } else { None }, rest),
+        Place::Reg(r) => made(
+            if reg == 3 {
+                Some(Insn::WriteCr3(r))
+            } else {
+                None
+            },
+            rest,
+        ),
         Place::Mem(_) => Err(DecodeFault::Unknown),
     }
 }
@@ -251,7 +291,10 @@ fn test_rax(head: Head, bytes: &[u8]) -> Result<(Draft, &[u8]), DecodeFault>
 {
     let w = width_of(head.rex);
     let (value, rest) = immediate(w, Size::Four, bytes)?;
-    Ok((Draft::Whole(Insn::Test(w, Place::Reg(Reg(0)), Source::Imm(value))), rest))
+    Ok((
+        Draft::Whole(Insn::Test(w, Place::Reg(Reg(0)), Source::Imm(value))),
+        rest,
+    ))
 }
 
 #[tactic(auto, unfolding(crate::specs::Reading::tail_at))]
@@ -259,7 +302,10 @@ fn test_al(head: Head, bytes: &[u8]) -> Result<(Draft, &[u8]), DecodeFault>
     ensures { Gives (λ x. (draft_of x.0, x.1.now)) result (tail_at (form_of TestAl) head.gs head.rex bytes.now) }
 {
     let (value, rest) = immediate(Width::Byte, Size::One, bytes)?;
-    Ok((Draft::Whole(Insn::Test(Width::Byte, Place::Reg(Reg(0)), Source::Imm(value))), rest))
+    Ok((
+        Draft::Whole(Insn::Test(Width::Byte, Place::Reg(Reg(0)), Source::Imm(value))),
+        rest,
+    ))
 }
 
 fn disp_of_size(size: Size) -> Disp

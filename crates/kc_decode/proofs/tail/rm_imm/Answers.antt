@@ -10,5 +10,5 @@ returns c =
     let fits : SFits w64 c.in_ok-value.value = search rules in
     let passed = simp to_z-of_z at c.group_insn.ensures in
     rm_imm-gives (λ x. (draft_of x.0, x.1.now)) c.made.result (group_of c.args.group) (size_of c.args.size) c.args.head.gs c.args.head.rex c.args.bytes.now
-        c.in_ok-reg.reg c.in_ok-reg.rm c.in_ok-reg.rest.now c.width_of-w.result c.in_ok-value.value c.in_ok-value.rest.now c.group_insn.result
-        c.in_ok-reg.ensures.read c.width_of-w.ensures c.in_ok-value.ensures passed c.made.ensures
+    c.in_ok-reg.reg c.in_ok-reg.rm c.in_ok-reg.rest.now c.width_of-w.result c.in_ok-value.value c.in_ok-value.rest.now c.group_insn.result
+    c.in_ok-reg.ensures.read c.width_of-w.ensures c.in_ok-value.ensures passed c.made.ensures
