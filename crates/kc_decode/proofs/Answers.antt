@@ -1,19 +1,22 @@
 -- What the decoder answers, by the grammar.
-use Rattle.std.proofs.Common.{◌≡◌, ℕ, zero, suc, ◌+◌, ◌-◌, ◌%◌, ◌^◌, ◌<◌, ◌≤◌, Bool, true, false, cond, ltb, nat_lt, List, [], ◌∷◌, ◌++◌, length, get_or, take, drop, Result, Ok, Err, ◌⊎◌, inl, inr, refl, sym, ap, subst, ◌∙◌, append_assoc, arith}
+use Rattle.std.proofs.Common.{◌≡◌, ℕ, suc, ◌+◌, ◌-◌, ◌%◌, ◌^◌, ◌<◌, ◌≤◌, Bool, true, false, cond, eqb, ltb, leb, nat_lt, None, lit<, List, [], ◌∷◌, ◌++◌, length, get_or, take, drop, Result, Ok, Err, inl, inr, refl, sym, ap, subst, ◌∙◌, arith}
 use Rattle.std.proofs.lemmas.List.{append-nil, length-append, take_at, take-append-drop, length-take, length-drop}
-use Rattle.std.proofs.lemmas.Bool.{ltb-false, ltb-true, le-ltb}
+use Rattle.std.proofs.lemmas.Bool.{ltb-false, le-ltb, eqb-true, eq-eqb, le-leb, leb-true}
 use Rattle.std.specs.Prelude.{IfOk, ◌↔◌}
 use Rattle.std.specs.Int.{w64, cast_unsigned}
 use Rattle.kc_insn.specs.declared.insn.Insn.{Insn}
-use Rattle.kc_insn.specs.Fields.{target}
-use Rattle.kc_reading.proofs.Readers.{ok_is, exact-unique, exact-short}
+use Rattle.kc_reading.proofs.Readers.{exact-unique, exact-short}
 use Rattle.kc_decode.specs.declared.fault.DecodeFault.TheVariants.{Short, Unknown, TooLong}
-use Rattle.kc_decode.specs.Begins.{BeginsUnbounded}
-use Rattle.kc_reading.specs.Reading.{AreBytes, Exact}
-use Rattle.kc_insn.specs.Spells.{Draft, whole, jump, Spelled, resolve, Spells, SpellsUnbounded}
+use Rattle.kc_decode.specs.Begins.{BeginsUnbounded, IsProperPrefix, HasFront}
+use Rattle.kc_insn.specs.declared.insn.Insn.TheVariants as insn
+use Rattle.kc_insn.specs.Table.{plain, one_byte}
+use Rattle.kc_decode.proofs.Least.{least-behind_66, least-nop}
+use Rattle.kc_decode.proofs.Bounds.{opened-small, f3-small}
+use Rattle.kc_reading.specs.Reading.{AreBytes}
+use Rattle.kc_insn.specs.Spells.{Draft, whole, jump, Spelled, in_one_byte, resolve, Spells}
 use Rattle.kc_decode.specs.declared.fault.DecodeFault.{DecodeFault}
-use Rattle.kc_decode.specs.Reading.{is_short, draft_at, fits, bounded, decode_at, Gives}
-use Rattle.kc_decode.proofs.Whole.{exact-draft}
+use Rattle.kc_decode.specs.Reading.{is_short, draft_at, least_66, least_nop, fits, bounded, decode_at, Gives}
+use Rattle.kc_decode.proofs.Whole.{exact-draft, First, gs_first, f3_first, pad_first, cs_first, plain_first, first-of, first-to}
 
 pub are-bytes : (bs : List ℕ) → ((i : ℕ) → get_or bs i 0 < 256) → AreBytes bs
 are-bytes [] h = tt
@@ -50,6 +53,16 @@ short-not_unknown false k = cc
 
 abbrev fails : DecodeFault → Result (Draft × List ℕ) DecodeFault
 fails e = Err e
+
+abbrev answers : DecodeFault → Result (Insn × ℕ) DecodeFault
+answers e = Err e
+
+not-at : (a b : ℕ) → (a ≡ b → ⊥) → (t : Bool) → eqb a b ≡ t → t ≡ false
+not-at a b n false q = refl
+not-at a b n true q = absurd (n (eqb-true a b q))
+
+not-eq : (a b : ℕ) → (a ≡ b → ⊥) → eqb a b ≡ false
+not-eq a b n = not-at a b n (eqb a b) refl
 
 fails-is : (e f : DecodeFault) → fails e ≡ fails f → e ≡ f
 fails-is e f h = cc
@@ -157,6 +170,135 @@ module _ (bs : List ℕ) (at : ℕ) (fit : AreBytes bs) where
 
   pub is-unknown : (r : Result (Insn × ℕ) DecodeFault) → Gives (λ x. (x.0, x.1)) r (decode_at bs at) → (r ≡ Err Unknown) ↔ ¬ (BeginsUnbounded bs at)
   is-unknown r given = (λ e. decoded-unknown (same-answer r given ∙ e), λ none. sym (same-answer r given) ∙ decoded-not_begun none)
+
+-- ---- the bound of fifteen bytes
+
+nop-alone : Spelled (0x90 ∷ []) (whole insn.Nop)
+unfolding one_byte
+nop-alone = in_one_byte false None [] 0x90 (plain insn.Nop) [] refl refl refl refl (refl, refl)
+
+-- where an instruction that begins so ends in time, the test holds
+fits-true : (bs more : List ℕ) (d : Draft) → Spelled (bs ++ more) d → length (bs ++ more) ≤ 15 → fits bs ≡ true
+unfolding fits
+fits-true [] more d h small = refl
+fits-true (b ∷ bs) more d h small = go (first-of b (bs ++ more) d h)
+  where
+    go : First b (bs ++ more) d → cond (eqb b 0x66) (leb (1 + least_66 bs) 15) (cond (eqb b 0x2E) (leb (1 + least_nop bs) 15) true) ≡ true
+    go (gs_first e k) = let t = ap (λ (n : ℕ). eqb n 0x66) e in let u = ap (λ (n : ℕ). eqb n 0x2E) e in rw (t, u) refl
+    go (f3_first e k) = let t = ap (λ (n : ℕ). eqb n 0x66) e in let u = ap (λ (n : ℕ). eqb n 0x2E) e in rw (t, u) refl
+    go (pad_first e k) = let t = eq-eqb b 0x66 e in let l = least-behind_66.lower bs more d k in rw t (le-leb (1 + least_66 bs) 15 (omega (arith, l)))
+    go (cs_first e k) = let t = ap (λ (n : ℕ). eqb n 0x66) e in let u = eq-eqb b 0x2E e in let l = least-nop.lower bs more d k in rw (t, u) (le-leb (1 + least_nop bs) 15 (omega (arith, l)))
+    go (plain_first n1 n2 n3 n4 k) = let t = not-eq b 0x66 n3 in let u = not-eq b 0x2E n4 in rw (t, u) refl
+
+-- and where it holds of bytes that aren't whole, some instruction ends in time
+fits-some : (bs : List ℕ) → AreBytes bs → draft_at bs ≡ Err Short → fits bs ≡ true → (more : List ℕ) × (d : Draft) × (0 < length more) × Spelled (bs ++ more) d × (length (bs ++ more) ≤ 15)
+unfolding fits
+fits-some [] fit h ok = (0x90 ∷ [], whole insn.Nop, lit< tt, nop-alone, omega arith)
+fits-some (b ∷ bs) fit h ok =
+    let c = exact-draft.completes (b ∷ bs) Short fit h refl in go c.0 c.1 c.2 c.3 (first-of b (bs ++ c.0) c.1 c.3)
+  where
+    -- the bytes themselves are no instruction
+    longer : (end : List ℕ) (d : Draft) → Spelled (b ∷ (bs ++ end)) d → 0 < length end
+    longer (e ∷ end) d s = omega arith
+    longer [] d s =
+        let whole_one : Spelled (b ∷ bs) d = subst (λ (l : List ℕ). Spelled (b ∷ l) d) (append-nil bs) s in
+        let read : draft_at (b ∷ bs) ≡ Ok (d, []) = ap (λ (l : List ℕ). draft_at (b ∷ l)) (sym (append-nil bs)) ∙ exact-draft.again (b ∷ bs) [] d whole_one in
+        absurd (let clash : fails Short ≡ Ok (d, []) = sym h ∙ read in cc)
+
+    go : (more : List ℕ) (d : Draft) → 0 < length more → Spelled (b ∷ (bs ++ more)) d → First b (bs ++ more) d → (end : List ℕ) × (c : Draft) × (0 < length end) × Spelled (b ∷ (bs ++ end)) c × (suc (length (bs ++ end)) ≤ 15)
+    go more d some s (gs_first e k) = let l = opened-small true (bs ++ more) d k in (more, d, some, s, omega (arith, l))
+    go more d some s (f3_first e k) = let l = f3-small (bs ++ more) d k in (more, d, some, s, omega (arith, l))
+    go more d some s (plain_first n1 n2 n3 n4 k) = let l = opened-small false (b ∷ (bs ++ more)) d k in (more, d, some, s, omega (arith, l))
+    go more d some s (pad_first e k) =
+        let r = least-behind_66.reached bs more d k in
+        let t = eq-eqb b 0x66 e in
+        let small : 1 + least_66 bs ≤ 15 = leb-true (1 + least_66 bs) 15 (sym (ap (λ (v : Bool). cond v (leb (1 + least_66 bs) 15) (cond (eqb b 0x2E) (leb (1 + least_nop bs) 15) true)) t) ∙ ok) in
+        let made : Spelled (b ∷ (bs ++ r.0)) r.1 = first-to b (bs ++ r.0) r.1 (pad_first e r.2) in
+        (r.0, r.1, longer r.0 r.1 made, made, omega (arith, small, r.3))
+    go more d some s (cs_first e k) =
+        let r = least-nop.reached bs more d k in
+        let t = ap (λ (n : ℕ). eqb n 0x66) e in
+        let u = eq-eqb b 0x2E e in
+        let test : leb (1 + least_nop bs) 15 ≡ true =
+        sym (ap (λ (v : Bool). cond v (leb (1 + least_66 bs) 15) (cond (eqb b 0x2E) (leb (1 + least_nop bs) 15) true)) t ∙ ap (λ (v : Bool). cond v (leb (1 + least_nop bs) 15) true) u) ∙ ok in
+        let small : 1 + least_nop bs ≤ 15 = leb-true (1 + least_nop bs) 15 test in
+        let made : Spelled (b ∷ (bs ++ r.0)) r.1 = first-to b (bs ++ r.0) r.1 (cs_first e r.2) in
+        (r.0, r.1, longer r.0 r.1 made, made, omega (arith, small, r.3))
+
+short-is : (e : DecodeFault) → is_short e ≡ true → e ≡ Short
+short-is Short h = refl
+short-is Unknown h = absurd cc
+short-is TooLong h = absurd cc
+
+module _ (bs : List ℕ) (at : ℕ) (fit : AreBytes bs) where
+  -- ---- Short
+
+  decoded-prefix : IsProperPrefix bs at → decode_at bs at ≡ Err Short
+  unfolding decode_at
+  decoded-prefix p =
+      let k = exact-short is_short draft_at Spelled exact-draft bs p.0 p.3.1.0 fit p.2 p.3.1.1 in
+      let short : draft_at bs ≡ Err Short = k.1 ∙ ap fails (short-is k.0 k.2) in
+      let ok : fits bs ≡ true = fits-true bs p.0 p.3.1.0 p.3.1.1 p.3.0 in
+      ap (bounded bs at) short ∙ ap short_answer ok
+
+  decoded-short : decode_at bs at ≡ Err Short → IsProperPrefix bs at
+  unfolding decode_at
+  decoded-short h = go (draft_at bs) refl h
+    where
+      test : (t : Bool) → short_answer t ≡ Err Short → t ≡ true
+      test true k = refl
+      test false k = absurd cc
+
+      ok-case : (t : Bool) (x : Insn × ℕ) → cond t (Err TooLong) (Ok x) ≡ Err Short → ⊥
+      ok-case true x k = cc
+      ok-case false x k = cc
+
+      go : (r : Result (Draft × List ℕ) DecodeFault) → draft_at bs ≡ r → bounded bs at r ≡ Err Short → IsProperPrefix bs at
+      go (Ok d) e k = absurd (ok-case (nat_lt 15 (length bs - length d.1)) (resolve ((at + (length bs - length d.1)) % 2 ^ 64) d.0, length bs - length d.1) k)
+      go (Err Short) e k =
+          let c = fits-some bs fit e (test (fits bs) k) in
+          (c.0, resolve (at + length (bs ++ c.0)) c.1, c.2, (c.4, (c.1, c.3, refl)))
+      go (Err Unknown) e k = absurd cc
+      go (Err TooLong) e k = absurd cc
+
+  pub is-short : (r : Result (Insn × ℕ) DecodeFault) → Gives (λ x. (x.0, x.1)) r (decode_at bs at) → (r ≡ Err Short) ↔ IsProperPrefix bs at
+  is-short r given = (λ e. decoded-short (same-answer bs at fit r given ∙ e), λ p. sym (same-answer bs at fit r given) ∙ decoded-prefix p)
+
+  -- ---- TooLong
+
+  unknown-of : (e : DecodeFault) → draft_at bs ≡ Err e → is_short e ≡ false → decode_at bs at ≡ Err Unknown
+  unfolding decode_at
+  unknown-of Short h s = absurd cc
+  unknown-of Unknown h s = ap (bounded bs at) h
+  unknown-of TooLong h s = ap (bounded bs at) h
+
+  abbrev IsTooLong : Type 0
+  IsTooLong = (¬ (IsProperPrefix bs at)) × (¬ (HasFront bs at)) × BeginsUnbounded bs at
+
+  decoded-too_long : decode_at bs at ≡ Err TooLong → IsTooLong
+  decoded-too_long h = (
+    λ p. let clash : answers TooLong ≡ answers Short = sym h ∙ decoded-prefix p in cc,
+    λ f. let clash : answers TooLong ≡ Ok (f.1, f.0) = sym h ∙ decoded-only bs at fit f.0 f.1 f.2 f.3 in cc,
+    begins,
+  )
+    where
+      begins : BeginsUnbounded bs at
+      begins = go (draft_at bs) refl
+        where
+          go : (r : Result (Draft × List ℕ) DecodeFault) → draft_at bs ≡ r → BeginsUnbounded bs at
+          go (Ok d) e = begins-ok bs at fit d.0 d.1 e
+          go (Err Short) e = begins-short bs at fit e
+          go (Err Unknown) e = absurd (let clash : answers TooLong ≡ answers Unknown = sym h ∙ unknown-of Unknown e refl in cc)
+          go (Err TooLong) e = absurd (let clash : answers TooLong ≡ answers Unknown = sym h ∙ unknown-of TooLong e refl in cc)
+
+  pub is-too_long : (r : Result (Insn × ℕ) DecodeFault) → Gives (λ x. (x.0, x.1)) r (decode_at bs at) → (r ≡ Err TooLong) ↔ ((¬ (IsProperPrefix bs at)) × (¬ (HasFront bs at)) × BeginsUnbounded bs at)
+  is-too_long r given = (λ e. decoded-too_long (same-answer bs at fit r given ∙ e), λ h. go r given h)
+    where
+      go : (r : Result (Insn × ℕ) DecodeFault) → Gives (λ x. (x.0, x.1)) r (decode_at bs at) → IsTooLong → r ≡ Err TooLong
+      go (Ok x) g h = let f = decoded-found bs at fit x.0 x.1 g in absurd (h.1 (x.1, x.0, f.0, f.1))
+      go (Err Short) g h = absurd (h.0 (decoded-short g))
+      go (Err Unknown) g h = absurd (decoded-unknown bs at fit g h.2)
+      go (Err TooLong) g h = refl
 
 -- ---- one reading
 

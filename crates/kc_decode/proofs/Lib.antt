@@ -5,5 +5,7 @@ pub mod Rows
 pub mod Drafts
 pub mod BehindF3
 pub mod Nops
+pub mod Least
+pub mod Bounds
 pub mod Whole
 pub mod Answers

@@ -1,23 +1,20 @@
 -- Padding prefixes and the long NOP behind them are read exactly as the grammar has them.
-use Rattle.std.proofs.Common.{◌≡◌, ℕ, zero, suc, ◌+◌, ◌-◌, ◌*◌, ◌/◌, ◌%◌, ◌<◌, ◌≤◌, Bool, true, false, cond, not, ◌&&◌, ◌||◌, eqb, ltb, leb, List, [], ◌∷◌, ◌++◌, length, replicate, Option, Some, None, Result, Ok, Err, ◌⊎◌, inl, inr, ℤ, pos, refl, sym, ap, subst, ◌∙◌, arith, lit<}
-use Rattle.std.proofs.lemmas.Bool.{eqb-true, eqb-false, eq-eqb, ltb-true, ltb-false, lt-ltb, leb-true, le-leb}
-use Rattle.kc_reading.specs.Reading.{AreBytes, ◌>>=◌, Exact, Then, ByteThen, byte_at}
-use Rattle.kc_reading.proofs.Readers.{exact-none, exact-pure, exact-words, exact-same, exact-byte, exact-map, exact-cases, exact-if, ok_is}
-use Rattle.kc_insn.specs.declared.insn.Insn.{Insn}
+use Rattle.std.proofs.Common.{◌≡◌, ℕ, zero, suc, ◌+◌, ◌*◌, ◌<◌, ◌≤◌, Bool, true, false, cond, ◌||◌, eqb, ltb, leb, List, [], ◌∷◌, ◌++◌, length, replicate, Option, Some, None, Ok, Err, ◌⊎◌, inl, inr, refl, sym, ap, subst, ◌∙◌, arith, lit<}
+use Rattle.std.proofs.lemmas.Bool.{eqb-true, eqb-false, leb-true}
+use Rattle.kc_reading.specs.Reading.{AreBytes, Exact, ByteThen}
+use Rattle.kc_reading.proofs.Readers.{exact-none, exact-words, exact-byte, exact-cases, ok_is}
 use Rattle.kc_insn.specs.declared.insn.Insn.TheVariants as insn
 use Rattle.kc_insn.specs.declared.insn.Place.TheVariants as place
-use Rattle.kc_insn.specs.declared.insn.Source.TheVariants as source
 use Rattle.kc_insn.specs.declared.rex.Rex.{Rex}
-use Rattle.kc_insn.specs.Fields.{worth, IsRex, w_bit, r_bit, x_bit, b_bit, extended, width_of}
-use Rattle.kc_insn.specs.Table.{Form, rm_unused, rm_reg, rm_bit, lookup, one_byte, two_byte, two_byte_f3, bit_of}
-use Rattle.kc_insn.specs.Spells.{has_rm, has_reg, has_register, has_width, needs_w, permits, permits_rex, Draft, whole, jump, IsTail, gs_bytes, cs_bytes, Spelled, in_one_byte, in_two_bytes, behind_f3, short_nop, long_nop}
+use Rattle.kc_insn.specs.Fields.{IsRex}
+use Rattle.kc_insn.specs.Table.{rm_unused}
+use Rattle.kc_insn.specs.Spells.{permits, permits_rex, Draft, whole, IsTail, cs_bytes}
 use Rattle.kc_decode.specs.declared.fault.DecodeFault.{DecodeFault}
 use Rattle.kc_decode.specs.declared.fault.DecodeFault.TheVariants.{Short, Unknown}
-use Rattle.kc_decode.specs.Reading.{is_short, tail_at, row_at, opcode_at, is_rex, rex_of, plain_at, f3_row_at, f3_escape_at, f3_at, nop_tail_at, nop_escape_at, nop_at, behind_2e_at, padded_at, behind_66_at, behind_65_at, draft_at}
-use Rattle.kc_decode.proofs.Operands.{zero_number, IsNumber-zeros}
-use Rattle.kc_decode.proofs.Tails.{is_live, exact-tail, exact-rm_unused, zero_mem, zero-operand, and-left, and-right}
-use Rattle.kc_decode.proofs.Rows.{chosen, Apart, one-apart, two-apart, f3-apart, one-live, two-live, f3-live, two-no_reg, f3-forms, escape-no_row, gs-no_row, f3-no_row, pad-no_row, cs-no_row, mov-row, bit-row, mov_form, mov-permits, bit-permits, rex-bytes, rex_byte, rex-back}
-use Rattle.kc_decode.proofs.Drafts.{RowTail, exact-row, Opened, one, two, apart-no_rex, heads, rex-is, exact-plain, mov-tail}
+use Rattle.kc_decode.specs.Reading.{is_short, tail_at, is_rex, rex_of, nop_tail_at, nop_escape_at, nop_at, behind_2e_at, padded_at, behind_66_at}
+use Rattle.kc_decode.proofs.Tails.{exact-rm_unused, zero_mem, zero-operand, and-left}
+use Rattle.kc_decode.proofs.Rows.{chosen, rex-bytes, rex_byte}
+use Rattle.kc_decode.proofs.Drafts.{heads, rex-is}
 use Rattle.kc_decode.proofs.BehindF3.{exact-wanted}
 
 -- ---- a long NOP behind its padding

@@ -1,10 +1,10 @@
 -- Reading an operand is exact for the grammar's operands.
-use Rattle.std.proofs.Common.{◌≡◌, ℕ, zero, suc, ◌+◌, ◌*◌, ◌/◌, ◌%◌, ◌<◌, Bool, true, false, cond, not, ◌&&◌, ◌||◌, eqb, List, [], ◌∷◌, ◌++◌, length, replicate, Option, Some, None, Result, Ok, Err, ℤ, pos, refl, sym, ap, subst, ◌∙◌, arith, lit<}
-use Rattle.std.proofs.lemmas.Bool.{eqb-true, eqb-false, eq-eqb}
+use Rattle.std.proofs.Common.{◌≡◌, ℕ, ◌+◌, ◌*◌, ◌/◌, ◌%◌, ◌<◌, Bool, true, false, cond, ◌||◌, eqb, List, [], ◌∷◌, replicate, Option, None, Ok, Err, ℤ, refl, sym, ap, subst, ◌∙◌, arith, lit<}
+use Rattle.std.proofs.lemmas.Bool.{eqb-true, eqb-false}
 use Rattle.std.proofs.lemmas.List.{length-replicate}
 use Rattle.kc_words.specs.LittleEndian.{little_endian}
 use Rattle.kc_words.specs.declared.width.Width.{Width}
-use Rattle.kc_reading.specs.Reading.{AreBytes, ◌>>=◌, Exact, ByteThen, IsNumber, byte_at, number_at}
+use Rattle.kc_reading.specs.Reading.{◌>>=◌, Exact, ByteThen, IsNumber, number_at}
 use Rattle.kc_reading.proofs.Readers.{AreBytes-zeros, exact-none, exact-pure, exact-words, exact-byte, exact-map, exact-cases, exact-number}
 use Rattle.kc_insn.specs.declared.insn.Mem.{Mem}
 use Rattle.kc_insn.specs.declared.insn.Base.TheVariants as base
@@ -13,7 +13,6 @@ use Rattle.kc_insn.specs.declared.insn.Place.TheVariants as place
 use Rattle.kc_insn.specs.declared.rex.Rex.{Rex}
 use Rattle.kc_insn.specs.Fields.{x_bit, b_bit, extended, signed, IsSigned, Size, size_bytes, immediate, IsImmediate, disp_bytes, base_of, index_of, IsMemory, no_sib, sib, IsRm, in_register, in_memory, IsOperand}
 use Rattle.kc_insn.specs.Table.{Form}
-use Rattle.kc_decode.specs.declared.fault.DecodeFault.{DecodeFault}
 use Rattle.kc_decode.specs.declared.fault.DecodeFault.TheVariants.{Short, Unknown}
 use Rattle.kc_decode.specs.Reading.{is_short, mode_field, reg_field, rm_field, disp_at, sib_at, no_sib_at, memory_at, rm_at, takes_modrm, operand_at, imm_at}
 

@@ -1,13 +1,13 @@
 -- What stands behind an opcode is read exactly as the grammar has it, form by form.
-use Rattle.std.proofs.Common.{◌≡◌, ℕ, zero, suc, ◌+◌, ◌*◌, ◌<◌, Bool, true, false, cond, not, ◌&&◌, ◌||◌, eqb, ltb, List, [], ◌∷◌, ◌++◌, length, replicate, Option, Some, None, Result, Ok, Err, ◌⊎◌, inl, inr, ℤ, pos, refl, sym, ap, subst, ◌∙◌, arith, lit<}
+use Rattle.std.proofs.Common.{◌≡◌, ℕ, ◌+◌, ◌*◌, ◌<◌, Bool, true, false, cond, not, ◌&&◌, ◌||◌, eqb, ltb, List, [], ◌∷◌, ◌++◌, replicate, Option, Some, None, Result, Ok, Err, ℤ, pos, refl, sym, ap, subst, ◌∙◌, arith, lit<}
 use Rattle.std.specs.Prelude.{is_some, option_map}
 use Rattle.std.specs.Int.{w64, cast_signed}
-use Rattle.std.proofs.lemmas.Bool.{eqb-true, eqb-false, eq-eqb, ltb-true, lt-ltb}
+use Rattle.std.proofs.lemmas.Bool.{eqb-true, eq-eqb, ltb-true, lt-ltb}
 use Rattle.std.proofs.lemmas.List.{append-nil}
 use Rattle.kc_words.specs.declared.width.Width.{Width}
 use Rattle.kc_words.specs.declared.width.Width.TheVariants.{Byte, Quad}
-use Rattle.kc_reading.specs.Reading.{AreBytes, ◌>>=◌, Exact, Then, ByteThen, IsNumber, byte_at, number_at}
-use Rattle.kc_reading.proofs.Readers.{exact-none, exact-pure, exact-words, exact-same, exact-then, exact-byte, exact-map, exact-cases, exact-number}
+use Rattle.kc_reading.specs.Reading.{◌>>=◌, Exact, Then, ByteThen, IsNumber, number_at}
+use Rattle.kc_reading.proofs.Readers.{exact-none, exact-pure, exact-words, exact-then, exact-byte, exact-map, exact-number}
 use Rattle.kc_insn.specs.declared.insn.Insn.{Insn}
 use Rattle.kc_insn.specs.declared.insn.Insn.TheVariants as insn
 use Rattle.kc_insn.specs.declared.insn.BitOp.{BitOp}
@@ -19,7 +19,7 @@ use Rattle.kc_insn.specs.declared.insn.Place.TheVariants as place
 use Rattle.kc_insn.specs.declared.insn.Source.{Source}
 use Rattle.kc_insn.specs.declared.insn.Source.TheVariants as source
 use Rattle.kc_insn.specs.declared.rex.Rex.{Rex}
-use Rattle.kc_insn.specs.Fields.{w_bit, r_bit, x_bit, b_bit, register, extended, width_of, signed, IsSigned, Size, ib, id, size_bytes, immediate, IsImmediate, disp_bytes, base_of, index_of, IsMemory, no_sib, sib, IsRm, in_register, in_memory, IsOperand}
+use Rattle.kc_insn.specs.Fields.{w_bit, r_bit, x_bit, b_bit, register, extended, width_of, signed, IsSigned, Size, ib, id, size_bytes, immediate, IsImmediate, base_of, index_of, sib, IsRm, in_register, in_memory, IsOperand}
 use Rattle.kc_insn.specs.Table.{Form, plain, plain_w, last_byte, opcode_register, register_imm, rm_reg, reg_rm, address, rm_imm, rm_byte_imm, rm_bit, rm_quad, rm_register, rm_register_w, rm_unused, imm_quad, rax_imm, al_imm, relative}
 use Rattle.kc_insn.specs.Spells.{has_rm, has_reg, has_register, has_access, has_width, needs_w, permits, permits_rex, Draft, whole, jump, IsLowByte, IsTail}
 use Rattle.kc_decode.specs.declared.fault.DecodeFault.{DecodeFault}

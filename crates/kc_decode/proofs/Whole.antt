@@ -1,25 +1,19 @@
 -- A whole instruction is read exactly as the grammar has it, whatever the number of its bytes.
-use Rattle.std.proofs.Common.{◌≡◌, ℕ, zero, suc, ◌+◌, ◌-◌, ◌*◌, ◌/◌, ◌%◌, ◌<◌, ◌≤◌, Bool, true, false, cond, not, ◌&&◌, ◌||◌, eqb, ltb, leb, List, [], ◌∷◌, ◌++◌, length, replicate, Option, Some, None, Result, Ok, Err, ◌⊎◌, inl, inr, ℤ, pos, refl, sym, ap, subst, ◌∙◌, arith, lit<}
-use Rattle.std.proofs.lemmas.Bool.{eqb-true, eqb-false, eq-eqb, ltb-true, ltb-false, lt-ltb, leb-true, le-leb}
-use Rattle.kc_reading.specs.Reading.{AreBytes, ◌>>=◌, Exact, Then, ByteThen, byte_at}
-use Rattle.kc_reading.proofs.Readers.{exact-none, exact-pure, exact-words, exact-same, exact-byte, exact-map, exact-cases, exact-if}
-use Rattle.kc_insn.specs.declared.insn.Insn.{Insn}
-use Rattle.kc_insn.specs.declared.insn.Insn.TheVariants as insn
-use Rattle.kc_insn.specs.declared.insn.Place.TheVariants as place
-use Rattle.kc_insn.specs.declared.insn.Source.TheVariants as source
+use Rattle.std.proofs.Common.{◌≡◌, ℕ, zero, suc, ◌+◌, ◌*◌, ◌<◌, ◌≤◌, Bool, true, false, cond, eqb, ltb, leb, List, [], ◌∷◌, ◌++◌, replicate, Option, Some, None, inl, inr, refl, sym, ap, subst, ◌∙◌, arith, lit<}
+use Rattle.std.proofs.lemmas.Bool.{eqb-true, eqb-false, leb-true}
+use Rattle.kc_reading.specs.Reading.{Exact, ByteThen}
+use Rattle.kc_reading.proofs.Readers.{exact-words, exact-byte, exact-cases}
 use Rattle.kc_insn.specs.declared.rex.Rex.{Rex}
-use Rattle.kc_insn.specs.Fields.{worth, IsRex, w_bit, r_bit, x_bit, b_bit, extended, width_of}
-use Rattle.kc_insn.specs.Table.{Form, rm_unused, rm_reg, rm_bit, lookup, one_byte, two_byte, two_byte_f3, bit_of}
-use Rattle.kc_insn.specs.Spells.{has_rm, has_reg, has_register, has_width, needs_w, permits, permits_rex, Draft, whole, jump, IsTail, gs_bytes, cs_bytes, Spelled, in_one_byte, in_two_bytes, behind_f3, short_nop, long_nop}
-use Rattle.kc_decode.specs.declared.fault.DecodeFault.{DecodeFault}
-use Rattle.kc_decode.specs.declared.fault.DecodeFault.TheVariants.{Short, Unknown}
-use Rattle.kc_decode.specs.Reading.{is_short, tail_at, row_at, opcode_at, is_rex, rex_of, plain_at, f3_row_at, f3_escape_at, f3_at, nop_tail_at, nop_escape_at, nop_at, behind_2e_at, padded_at, behind_66_at, behind_65_at, draft_at}
-use Rattle.kc_decode.proofs.Operands.{zero_number, IsNumber-zeros}
-use Rattle.kc_decode.proofs.Tails.{is_live, exact-tail, exact-rm_unused, zero_mem, zero-operand, and-left, and-right}
-use Rattle.kc_decode.proofs.Rows.{chosen, Apart, one-apart, two-apart, f3-apart, one-live, two-live, f3-live, two-no_reg, f3-forms, escape-no_row, gs-no_row, f3-no_row, pad-no_row, cs-no_row, mov-row, bit-row, mov_form, mov-permits, bit-permits, rex-bytes, rex_byte, rex-back}
-use Rattle.kc_decode.proofs.Drafts.{RowTail, exact-row, Opened, one, two, apart-no_rex, heads, rex-is, exact-plain, mov-tail}
+use Rattle.kc_insn.specs.Fields.{worth, IsRex}
+use Rattle.kc_insn.specs.Table.{Form, lookup, one_byte, two_byte}
+use Rattle.kc_insn.specs.Spells.{permits, Draft, IsTail, cs_bytes, Spelled, in_one_byte, in_two_bytes, behind_f3, short_nop, long_nop}
+use Rattle.kc_decode.specs.declared.fault.DecodeFault.TheVariants.{Short}
+use Rattle.kc_decode.specs.Reading.{is_short, plain_at, f3_at, behind_2e_at, behind_66_at, behind_65_at, draft_at}
+use Rattle.kc_decode.proofs.Tails.{and-left}
+use Rattle.kc_decode.proofs.Rows.{one-apart, gs-no_row, f3-no_row, pad-no_row, cs-no_row, rex_byte}
+use Rattle.kc_decode.proofs.Drafts.{Opened, one, two, heads, rex-is, exact-plain, mov-tail}
 use Rattle.kc_decode.proofs.BehindF3.{F3Spelled, f3, exact-f3}
-use Rattle.kc_decode.proofs.Nops.{NopSpelled, nop, nop-first, nop-empty, Padded, Behind66, exact-behind_2e, exact-behind_66}
+use Rattle.kc_decode.proofs.Nops.{NopSpelled, nop, Behind66, exact-behind_2e, exact-behind_66}
 
 -- ---- the first byte
 
@@ -45,7 +39,7 @@ nop-spelled : (n : ℕ) (cs : Bool) (rest : List ℕ) (d : Draft) → 0 < n + wo
 nop-spelled n cs rest d some (nop rex rex_bytes tail eq is fits t) =
     long_nop n cs rex rex_bytes tail some (ap (λ (x : List ℕ). replicate n 0x66 ++ (cs_bytes cs ++ x)) eq) is fits t
 
-first-to : (b : ℕ) (bs : List ℕ) (d : Draft) → First b bs d → Spelled (b ∷ bs) d
+pub first-to : (b : ℕ) (bs : List ℕ) (d : Draft) → First b bs d → Spelled (b ∷ bs) d
 first-to b bs d (gs_first e h) = subst (λ (k : ℕ). Spelled (k ∷ bs) d) (sym e) (opened-gs bs d h)
 first-to b bs d (f3_first e h) = subst (λ (k : ℕ). Spelled (k ∷ bs) d) (sym e) (f3-spelled bs d h)
 first-to b bs d (pad_first e (inl h)) = short_nop (ap (λ (k : ℕ). k ∷ bs) e ∙ ap (λ (t : List ℕ). 0x66 ∷ t) h.0) h.1
@@ -91,7 +85,7 @@ first-nop b bs d zero true rest some eq h =
 first-nop b bs d (suc n) cs rest some eq h =
     let e = heads b 0x66 bs (replicate n 0x66 ++ (cs_bytes cs ++ rest)) eq in pad_first e.0 (inr (n, cs, rest, e.1, h))
 
-first-of : (b : ℕ) (bs : List ℕ) (d : Draft) → Spelled (b ∷ bs) d → First b bs d
+pub first-of : (b : ℕ) (bs : List ℕ) (d : Draft) → Spelled (b ∷ bs) d → First b bs d
 first-of b bs d (in_one_byte true rex rex_bytes op form tail eq is look fits t) =
     let e = heads b 0x65 bs (rex_bytes ++ op ∷ tail) eq in gs_first e.0 (one rex rex_bytes op form tail e.1 is look fits t)
 first-of b bs d (in_one_byte false rex rex_bytes op form tail eq is look fits t) = first-one b bs d rex rex_bytes op form tail eq is look fits t

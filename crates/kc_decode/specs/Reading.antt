@@ -1,5 +1,5 @@
 -- Reading an instruction from left to right, with the first fault that is met.
-use Rattle.std.specs.Prelude.{◌≡◌, ℕ, ◌+◌, ◌-◌, ◌^◌, length, ◌*◌, ◌/◌, ◌%◌, Bool, true, false, not, ◌&&◌, ◌||◌, ◌==◌, nat_le, nat_lt, if◌then◌else◌, List, [], ◌∷◌, Option, Some, None, is_some, option_map, Result, Ok, Err, ℤ, pos}
+use Rattle.std.specs.Prelude.{◌≡◌, ℕ, ◌+◌, ◌-◌, ◌^◌, length, ◌/◌, ◌%◌, Bool, true, false, not, ◌&&◌, ◌||◌, ◌==◌, nat_le, nat_lt, if◌then◌else◌, List, [], ◌∷◌, Option, Some, None, is_some, option_map, Result, Ok, Err, ℤ, pos}
 use Rattle.std.specs.Int.{w64, cast_signed}
 use Rattle.kc_words.specs.declared.width.Width.{Width}
 use Rattle.kc_words.specs.declared.width.Width.TheVariants.{Byte, Quad}
@@ -233,7 +233,7 @@ least_padded (b ∷ bs) = if b == 0x66 then 1 + least_padded bs else (if b == 0x
 
 abbrev pub least_66 : List ℕ → ℕ
 least_66 [] = 1
-least_66 (b ∷ bs) = least_padded (b ∷ bs)
+least_66 (b ∷ bs) = if b == 0x90 then 1 else least_padded (b ∷ bs)
 
 -- whether an instruction that begins so may end within fifteen bytes
 unfoldable pub fits : List ℕ → Bool

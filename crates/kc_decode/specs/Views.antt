@@ -1,5 +1,5 @@
 -- What the decoder's own types stand for in the grammar's terms.
-use Rattle.std.specs.Prelude.{◌≡◌, ℕ, ◌<◌, ◌==◌, if◌then◌else◌, Option, Some, None, ℤ, Result, Ok, Err}
+use Rattle.std.specs.Prelude.{ℕ, ◌<◌, ◌==◌, if◌then◌else◌, Option, Some, None}
 use Rattle.kc_words.specs.declared.width.Width.{Width}
 use Rattle.kc_insn.specs.declared.insn.Insn.{Insn}
 use Rattle.kc_insn.specs.declared.insn.Insn.TheVariants as insn
@@ -17,7 +17,6 @@ use Rattle.kc_decode.specs.declared.draft.Draft.{Draft}
 use Rattle.kc_decode.specs.declared.draft.Draft.TheVariants as draft
 use Rattle.kc_decode.specs.declared.operand.Disp.{Disp}
 use Rattle.kc_decode.specs.declared.operand.Disp.TheVariants as disp
-use Rattle.kc_decode.specs.declared.fault.DecodeFault.{DecodeFault}
 use Rattle.kc_decode.specs.declared.form.Size.{Size}
 use Rattle.kc_decode.specs.declared.form.Size.TheVariants.{One, Four}
 use Rattle.kc_decode.specs.declared.form.Pair.{Pair}

@@ -5,8 +5,8 @@ ghost use Rattle.kc_insn.specs.declared.insn.Insn.{Insn as InsnValue};
 ghost use Rattle.kc_insn.specs.Spells.{resolve as resolved, Spells};
 ghost use Rattle.kc_decode.specs.Views.{draft_of, jump_of};
 ghost use Rattle.kc_decode.specs.Reading.{Gives, decode_at};
-ghost use Rattle.kc_decode.specs.Begins.{BeginsUnbounded};
-ghost use Rattle.kc_decode.specs.declared.fault.DecodeFault.TheVariants.{Unknown};
+ghost use Rattle.kc_decode.specs.Begins.{BeginsUnbounded, IsProperPrefix, HasFront};
+ghost use Rattle.kc_decode.specs.declared.fault.DecodeFault.TheVariants.{Short, Unknown, TooLong};
 
 use crate::draft::Draft;
 use crate::fault::DecodeFault;
@@ -68,6 +68,11 @@ pub fn decode(bytes: &[u8], at: u64) -> Result<(Insn, u8), DecodeFault>
     ensures found { IfOk result (λ x. (x.1 ≤ length bytes.now) × Spells (take x.1 bytes.now) at x.0) }
     // What a front of the bytes spells is answered.
     ensures only { (n : ℕ) (insn : InsnValue) → n ≤ length bytes.now → Spells (take n bytes.now) at insn → result ≡ Ok (insn, n) }
+    // The bytes are a proper prefix of a spelling.
+    ensures short { (result ≡ Err Short) ↔ IsProperPrefix bytes.now at }
+    // Neither that holds nor is a front a spelling, but one of them would hold without the bound of
+    // fifteen bytes.
+    ensures too_long { (result ≡ Err TooLong) ↔ (¬ (IsProperPrefix bytes.now at) × ¬ (HasFront bytes.now at) × BeginsUnbounded bytes.now at) }
     // No instruction begins so, whatever the number of its bytes.
     ensures unknown { (result ≡ Err Unknown) ↔ ¬ (BeginsUnbounded bytes.now at) }
 {

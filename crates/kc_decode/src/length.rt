@@ -119,10 +119,15 @@ pub fn fits(bytes: &[u8]) -> bool
         [] => true,
         [b, rest @ ..] => {
             if *b == 0x66 {
-                if rest.is_empty() {
-                    true
-                } else {
-                    padded_within(rest, MAX_LENGTH - 1)
+                match rest {
+                    [] => true,
+                    [second, ..] => {
+                        if *second == 0x90 {
+                            true
+                        } else {
+                            padded_within(rest, MAX_LENGTH - 1)
+                        }
+                    }
                 }
             } else if *b == 0x2E {
                 least_nop(rest) < MAX_LENGTH

@@ -1,5 +1,5 @@
 -- A signed number that is passed stands in its bits: it is itself, since it fits.
-use Rattle.std.proofs.Common.{rules, ◌≡◌, w64, SFits}
+use Rattle.std.proofs.Common.{rules, w64, SFits}
 use Rattle.std.proofs.lemmas.Int.{to_z-of_z}
 use Rattle.kc_decode.specs.Views.{draft_of, group_of, size_of}
 use Rattle.kc_decode.proofs.Group.{rm_imm-gives}
