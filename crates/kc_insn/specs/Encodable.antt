@@ -1,5 +1,5 @@
 -- Which instructions have a spelling, reach of targets aside: this project's own choice of operands.
-use Rattle.std.specs.Prelude.{ℕ, ◌<◌, Bool, true, false, not, ◌&&◌, ◌||◌, ◌==◌, nat_lt, ◌^◌, Option, Some, None, is_none, ℤ, pos, negsuc, int_le, int_lt}
+use Rattle.std.specs.Prelude.{ℕ, Bool, true, false, not, ◌&&◌, ◌||◌, ◌==◌, nat_lt, Option, Some, None, is_none, ℤ, pos, negsuc, int_le, int_lt}
 use Rattle.kc_words.specs.declared.width.Width.{Width}
 use Rattle.kc_words.specs.declared.width.Width.TheVariants.{Byte, Long, Quad}
 use Rattle.kc_insn.specs.declared.insn.Reg.{Reg}
@@ -11,7 +11,7 @@ use Rattle.kc_insn.specs.declared.insn.Place.TheVariants as place
 use Rattle.kc_insn.specs.declared.insn.Source.{Source}
 use Rattle.kc_insn.specs.declared.insn.Source.TheVariants as source
 use Rattle.kc_insn.specs.declared.insn.Insn.{Insn}
-use Rattle.kc_insn.specs.declared.insn.Insn.TheVariants.{Nop, ReadCr3, WriteCr3, ReadGs, WriteGs, Mov, Lea, Xchg, Push, Pop, Alu, Test, Bit, Jcc}
+use Rattle.kc_insn.specs.declared.insn.Insn.TheVariants.{ReadCr3, WriteCr3, ReadGs, WriteGs, Mov, Lea, Xchg, Push, Pop, Alu, Test, Bit, Jcc}
 
 -- one of the sixteen registers
 abbrev pub is_register : Reg → Bool

@@ -1,6 +1,7 @@
 //! Which instructions the grammar can spell, this project's own choice of operands.
 
-ghost use Rattle.std.specs.Prelude.{◌≡◌};
+ghost use Rattle.std.specs.Prelude.{◌≡◌, ℕ, List, IsTrue};
+ghost use Rattle.kc_insn.specs.Spells.{Spells};
 ghost use Rattle.kc_insn.specs.Encodable.{is_register as register, is_index as index, is_address as address, is_memory as memory, is_place as place, is_wide as wide, is_signed_long as signed_long, is_immediate as immediate, is_move as move_operands, is_pair as pair, is_test as test, is_pushed as pushed, is_encodable};
 ghost use Rattle.kc_insn.specs.declared.insn.Place.TheVariants.{Reg as Register, Mem as Memory};
 
@@ -140,43 +141,51 @@ fn is_pushed(s: Source) -> bool
     }
 }
 
+fn is_encodable_insn(insn: Insn) -> bool
+    ensures { result ≡ is_encodable insn }
+{
+    match insn {
+        Insn::ReadCr3(r) | Insn::WriteCr3(r) | Insn::ReadGs(r) | Insn::WriteGs(r) => {
+            is_register(r)
+        }
+        Insn::Mov(w, p, s) => is_wide(w) && is_move(w, p, s),
+        Insn::Lea(w, r, m) => is_wide(w) && (is_register(r) && (!m.gs && is_memory(m))),
+        Insn::Xchg(w, p, r) => is_wide(w) && (is_place(p) && is_register(r)),
+        Insn::Push(s) => is_pushed(s),
+        Insn::Pop(p) => is_place(p),
+        Insn::Alu(_, w, p, s) => is_wide(w) && is_pair(w, p, s),
+        Insn::Test(w, p, s) => is_test(w, p, s),
+        Insn::Bit(_, w, p, _) => is_wide(w) && is_place(p),
+        Insn::Jcc(c, _) => c < 16,
+        Insn::Nop
+        | Insn::Endbr64
+        | Insn::Lfence
+        | Insn::Ud2
+        | Insn::Cld
+        | Insn::Clac
+        | Insn::Stac
+        | Insn::Cli
+        | Insn::Sti
+        | Insn::Swapgs
+        | Insn::Sysretq
+        | Insn::Iretq
+        | Insn::Rdmsr
+        | Insn::Wrmsr
+        | Insn::Pushfq
+        | Insn::Popfq
+        | Insn::Ret
+        | Insn::Jmp(_)
+        | Insn::Call(_) => true,
+    }
+}
+
 impl Insn {
     /// Whether some spelling of the grammar gives this instruction, reach of targets aside.
     pub fn encodable(&self) -> bool
-        ensures { result ≡ is_encodable self.now }
+        ensures is { result ≡ is_encodable self.now }
+        // What is spelled is encodable.
+        ensures spelled { (bytes : List ℕ) (at : ℕ) → Spells bytes at self.now → IsTrue result }
     {
-        match *self {
-            Insn::ReadCr3(r) | Insn::WriteCr3(r) | Insn::ReadGs(r) | Insn::WriteGs(r) => {
-                is_register(r)
-            }
-            Insn::Mov(w, p, s) => is_wide(w) && is_move(w, p, s),
-            Insn::Lea(w, r, m) => is_wide(w) && (is_register(r) && (!m.gs && is_memory(m))),
-            Insn::Xchg(w, p, r) => is_wide(w) && (is_place(p) && is_register(r)),
-            Insn::Push(s) => is_pushed(s),
-            Insn::Pop(p) => is_place(p),
-            Insn::Alu(_, w, p, s) => is_wide(w) && is_pair(w, p, s),
-            Insn::Test(w, p, s) => is_test(w, p, s),
-            Insn::Bit(_, w, p, _) => is_wide(w) && is_place(p),
-            Insn::Jcc(c, _) => c < 16,
-            Insn::Nop
-            | Insn::Endbr64
-            | Insn::Lfence
-            | Insn::Ud2
-            | Insn::Cld
-            | Insn::Clac
-            | Insn::Stac
-            | Insn::Cli
-            | Insn::Sti
-            | Insn::Swapgs
-            | Insn::Sysretq
-            | Insn::Iretq
-            | Insn::Rdmsr
-            | Insn::Wrmsr
-            | Insn::Pushfq
-            | Insn::Popfq
-            | Insn::Ret
-            | Insn::Jmp(_)
-            | Insn::Call(_) => true,
-        }
+        is_encodable_insn(*self)
     }
 }

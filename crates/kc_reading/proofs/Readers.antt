@@ -215,7 +215,7 @@ module _ {E : Type 0} (short : E → Bool) where
 
   -- a test of what was read before, where both branches are exact for one grammar
   pub exact-cases : {A : Type 0} (test : Bool) (read other : List ℕ → Result (A × List ℕ) E) (S : List ℕ → A → Type 0)
-    → (test ≡ true → Exact short read S) → (test ≡ false → Exact short other S) → Exact short (λ bs. cond test (read bs) (other bs)) S
+      → (test ≡ true → Exact short read S) → (test ≡ false → Exact short other S) → Exact short (λ bs. cond test (read bs) (other bs)) S
   exact-cases true read other S then_exact else_exact = then_exact refl
   exact-cases false read other S then_exact else_exact = else_exact refl
 
@@ -225,9 +225,9 @@ module _ {E : Type 0} (short : E → Bool) where
     -- no spelling begins another, and one list of bytes has one reading
     pub exact-unique : (a b u v : List ℕ) (x y : A) → S a x → S b y → a ++ u ≡ b ++ v → (a ≡ b) × (x ≡ y) × (u ≡ v)
     exact-unique a b u v x y one two same =
-      let pair : (x, u) ≡ (y, v) = ok_is {E = E} (x, u) (y, v) (sym (ex.again a u x one) ∙ ap read same ∙ ex.again b v y two) in
-      let rest : u ≡ v = ap (λ (p : A × List ℕ). p.1) pair in
-      (append_cancel_right a b v (subst (λ (t : List ℕ). a ++ t ≡ b ++ v) rest same), ap (λ (p : A × List ℕ). p.0) pair, rest)
+        let pair : (x, u) ≡ (y, v) = ok_is {E = E} (x, u) (y, v) (sym (ex.again a u x one) ∙ ap read same ∙ ex.again b v y two) in
+        let rest : u ≡ v = ap (λ (p : A × List ℕ). p.1) pair in
+        (append_cancel_right a b v (subst (λ (t : List ℕ). a ++ t ≡ b ++ v) rest same), ap (λ (p : A × List ℕ). p.0) pair, rest)
 
     -- what is a proper prefix of a spelling lacks bytes
     pub exact-short : (bs more : List ℕ) (x : A) → AreBytes bs → 0 < length more → S (bs ++ more) x → (e : E) × (read bs ≡ Err e) × (short e ≡ true)
@@ -236,15 +236,16 @@ module _ {E : Type 0} (short : E → Bool) where
         stays : (e : E) → read bs ≡ Err e → (t : Bool) → short e ≡ t → t ≡ true
         stays e h true s = refl
         stays e h false s =
-          let one : read (bs ++ more) ≡ Err e = ex.refuses bs more e fits h s in
-          let two : read (bs ++ more) ≡ Ok (x, []) = ap read (sym (append-nil (bs ++ more))) ∙ ex.again (bs ++ more) [] x spelt in
-          absurd (let clash : Err e ≡ Ok (x, []) = sym one ∙ two in cc)
+            let one : read (bs ++ more) ≡ Err e = ex.refuses bs more e fits h s in
+            let two : read (bs ++ more) ≡ Ok (x, []) = ap read (sym (append-nil (bs ++ more))) ∙ ex.again (bs ++ more) [] x spelt in
+            absurd (let clash : Err e ≡ Ok (x, []) = sym one ∙ two in cc)
+
         go : (r : Result (A × List ℕ) E) → read bs ≡ r → (e : E) × (read bs ≡ Err e) × (short e ≡ true)
         go (Err e) h = (e, h, stays e h (short e) refl)
         go (Ok y) h =
-          let t = ex.takes bs y.1 y.0 fits h in
-          let regrouped : t.0 ++ (y.1 ++ more) ≡ (bs ++ more) ++ [] =
-              sym (append_assoc t.0 y.1 more) ∙ ap (λ (l : List ℕ). l ++ more) (sym t.2) ∙ sym (append-nil (bs ++ more)) in
-          let u = exact-unique t.0 (bs ++ more) (y.1 ++ more) [] y.0 x t.1 spelt regrouped in
-          let none : length (y.1 ++ more) ≡ 0 = ap (λ (l : List ℕ). length l) u.2 in
-          absurd (omega (arith, none, length-append y.1 more))
+            let t = ex.takes bs y.1 y.0 fits h in
+            let regrouped : t.0 ++ (y.1 ++ more) ≡ (bs ++ more) ++ [] =
+            sym (append_assoc t.0 y.1 more) ∙ ap (λ (l : List ℕ). l ++ more) (sym t.2) ∙ sym (append-nil (bs ++ more)) in
+            let u = exact-unique t.0 (bs ++ more) (y.1 ++ more) [] y.0 x t.1 spelt regrouped in
+            let none : length (y.1 ++ more) ≡ 0 = ap (λ (l : List ℕ). length l) u.2 in
+            absurd (omega (arith, none, length-append y.1 more))
