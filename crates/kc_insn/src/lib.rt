@@ -7,3 +7,6 @@ mod rex;
 
 pub use insn::{AluOp, Base, BitOp, Insn, Mem, Place, Reg, Source};
 pub use rex::Rex;
+
+#[cfg(test)]
+mod tests;
