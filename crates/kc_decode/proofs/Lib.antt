@@ -1,0 +1,11 @@
+pub mod Group
+pub mod Operands
+pub mod Tails
+pub mod Rows
+pub mod Drafts
+pub mod BehindF3
+pub mod Nops
+pub mod Least
+pub mod Bounds
+pub mod Whole
+pub mod Answers

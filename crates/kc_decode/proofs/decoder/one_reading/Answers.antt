@@ -1,0 +1,5 @@
+use Rattle.kc_decode.proofs.Answers.{unique}
+use Rattle.kc_decode.proofs.decoder.one_reading.Goals as goal
+
+pub returns : goal.returns
+returns c = unique

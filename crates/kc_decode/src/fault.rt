@@ -1,0 +1,12 @@
+//! Why bytes could not be decoded.
+
+/// Why no prefix of the bytes is an instruction of the grammar.
+#[derive(Clone, Copy, PartialEq, Eq, Debug)]
+pub enum DecodeFault {
+    /// The bytes are a proper prefix of an instruction.
+    Short = 1,
+    /// No instruction begins so.
+    Unknown = 2,
+    /// An instruction would begin so if more than fifteen bytes were allowed.
+    TooLong = 3,
+}
