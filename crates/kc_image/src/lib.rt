@@ -1,0 +1,7 @@
+//! ELF-64 and raw images of kernel code: the loaded bytes by address, and the symbols by name.
+#![tactic(auto)]
+
+mod elf;
+mod fault;
+
+pub use fault::{ImageFault, ImageKind};
