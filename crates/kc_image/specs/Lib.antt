@@ -1,3 +1,5 @@
 pub mod Field
 pub mod Elf
 pub mod Verdict
+pub mod Image
+pub mod FirstFault

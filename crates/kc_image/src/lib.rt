@@ -3,5 +3,6 @@
 
 mod elf;
 mod fault;
+mod header;
 
 pub use fault::{ImageFault, ImageKind};
