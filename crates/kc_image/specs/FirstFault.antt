@@ -1,6 +1,5 @@
 -- The rules for ELF images, each asked after the one before: this project's own, over the fields of the System V ABI.
 use Rattle.std.specs.Prelude.{ℕ, zero, suc, ◌+◌, ◌*◌, ◌^◌, Bool, not, ◌==◌, nat_lt, nat_le, List, [], ◌∷◌, ◌++◌, length, slice_index, Result, Ok, if◌then◌else◌}
-use Rattle.std.specs.List.{list_any}
 use Rattle.kc_image.specs.declared.fault.ImageFault.{ImageFault}
 use Rattle.kc_image.specs.declared.fault.ImageKind.TheVariants.{BadMagic, BadClass, BadType, BadMachine, HeaderOut, SegmentOut, SegmentsMeet}
 use Rattle.kc_image.specs.declared.elf.FileHeader.{FileHeader}
@@ -8,7 +7,8 @@ use Rattle.kc_image.specs.declared.elf.ProgramHeader.{ProgramHeader}
 use Rattle.kc_image.specs.declared.elf.TheConstants.{ELFMAG, EI_CLASS, ELFCLASS64, EI_DATA, ELFDATA2LSB, E_TYPE, ET_EXEC, E_MACHINE, EM_X86_64, E_PHENTSIZE, E_PHNUM, E_SHENTSIZE, EHDR_SIZE, PN_XNUM, PT_LOAD, PHDR_SIZE, SHDR_SIZE}
 use Rattle.kc_image.specs.Elf.{file_header, program_header}
 use Rattle.kc_image.specs.Verdict.{refuse, ◌>>=◌}
-use Rattle.kc_image.specs.Image.{Place, meets}
+use Rattle.kc_image.specs.declared.segments.Place.{Place}
+use Rattle.kc_image.specs.Image.{meets_any}
 
 -- so many bytes from the offset on pass the file's end
 abbrev pub passes : List ℕ → ℕ → ℕ → Bool
@@ -58,7 +58,7 @@ section_table file e =
 
 -- where a PT_LOAD header puts its segment
 abbrev pub place_of : ProgramHeader → Place
-place_of h = record { range = record { from = h.p_vaddr; to = h.p_vaddr + h.p_memsz }; offset = h.p_offset; size = h.p_filesz }
+place_of h = record { span = record { from = h.p_vaddr; to = h.p_vaddr + h.p_memsz }; offset = h.p_offset; size = h.p_filesz }
 
 -- The PT_LOAD header h, which stands at this offset, adds its segment to the earlier ones. It lies in the file and
 -- in the address space, holds all its bytes in memory, and meets no earlier one.
@@ -67,7 +67,7 @@ add_load file earlier h at = do
   ok ← refuse (passes file h.p_offset h.p_filesz) SegmentOut at
   ok ← refuse (nat_lt h.p_memsz h.p_filesz) SegmentOut at
   ok ← refuse (nat_le (2 ^ 64) (h.p_vaddr + h.p_memsz)) SegmentOut at
-  ok ← refuse (list_any (λ p. meets (place_of h).range p.range) earlier) SegmentsMeet at
+  ok ← refuse (meets_any (place_of h).span earlier) SegmentsMeet at
   Ok (earlier ++ place_of h ∷ [])
 
 -- what the program header at this offset adds: a header of another type, nothing

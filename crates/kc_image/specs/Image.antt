@@ -1,6 +1,8 @@
 -- What an image file means: segments of bytes by address, and symbols by name.
 use Rattle.std.specs.Prelude.{ℕ, ◌+◌, ◌-◌, Bool, ◌&&◌, nat_le, nat_lt, max, min, List, [], ◌∷◌, length, take, drop, map, slice_index, Option, Some, None, if◌then◌else◌}
+use Rattle.std.specs.List.{list_any}
 use Rattle.kc_words.specs.Range.{Range}
+use Rattle.kc_image.specs.declared.segments.Place.{Place}
 
 -- a loaded segment: its addresses, and its bytes in the file, which the first addresses hold
 pub record Segment : Type 0 where
@@ -12,14 +14,9 @@ pub record Contents : Type 0 where
   pub segments : List Segment
   pub symbols : List (List ℕ × ℕ)
 
--- where a segment lies: its addresses, and where its bytes begin in the file and how many they are
-pub record Place : Type 0 where
-  pub range : Range
-  pub offset : ℕ
-  pub size : ℕ
-
+-- what the file holds at a place
 abbrev pub segment_at : List ℕ → Place → Segment
-segment_at file p = record { range = p.range; bytes = take p.size (drop p.offset file) }
+segment_at file p = record { range = p.span; bytes = take p.size (drop p.offset file) }
 
 abbrev pub segments_at : List ℕ → List Place → List Segment
 segments_at file places = map (segment_at file) places
@@ -31,3 +28,18 @@ holds r a = nat_le r.from a && nat_lt a r.to
 -- some address lies in both ranges
 abbrev pub meets : Range → Range → Bool
 meets r s = nat_lt (max r.from s.from) (min r.to s.to)
+
+-- some address of the range lies in one of the places
+abbrev pub meets_any : Range → List Place → Bool
+meets_any r places = list_any (λ p. meets r p.span) places
+
+-- the place that holds address a
+abbrev pub place_of_address : List Place → ℕ → Option Place
+place_of_address [] a = None
+place_of_address (p ∷ ps) a = if holds p.span a then Some p else place_of_address ps a
+
+-- The loaded byte at address a: that of the segment that holds it, 0 past the segment's bytes in the file. An address in
+-- no segment has none.
+abbrev pub loaded : List Segment → ℕ → Option ℕ
+loaded [] a = None
+loaded (s ∷ ss) a = if holds s.range a then Some (slice_index s.bytes (a - s.range.from)) else loaded ss a

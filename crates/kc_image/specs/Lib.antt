@@ -2,4 +2,5 @@ pub mod Field
 pub mod Elf
 pub mod Verdict
 pub mod Image
+pub mod ByAddress
 pub mod FirstFault

@@ -1,7 +1,9 @@
 //! Why an image file is refused, this project's own.
 
 ghost use Rattle.std.specs.Prelude.{◌≡◌};
-ghost use Rattle.kc_image.specs.Verdict.{refuse};
+ghost use Rattle.kc_image.specs.Verdict.{refuse, no_memory};
+
+use std::alloc::{AllocError, AllocFailed};
 
 /// The kind of an image's first fault.
 #[derive(Clone, Copy, PartialEq, Eq, Debug)]
@@ -33,6 +35,28 @@ pub struct ImageFault {
     /// The offset in the file, in bytes, of the field, header or symbol at fault; the file's length
     /// where the file is too short; 0 for `NoMemory`.
     pub at: u64,
+}
+
+impl From<AllocError> for ImageFault {
+    ghost from_gives = { λ _ e. e ≡ no_memory };
+
+    fn from(_error: AllocError) -> ImageFault {
+        ImageFault {
+            kind: ImageKind::NoMemory,
+            at: 0,
+        }
+    }
+}
+
+impl<T: Drop> From<AllocFailed<T>> for ImageFault {
+    ghost from_gives = { λ _ e. e ≡ no_memory };
+
+    fn from(_error: AllocFailed<T>) -> ImageFault {
+        ImageFault {
+            kind: ImageKind::NoMemory,
+            at: 0,
+        }
+    }
 }
 
 /// The fault at this place, where the rule is broken.

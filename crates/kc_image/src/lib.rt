@@ -4,5 +4,6 @@
 mod elf;
 mod fault;
 mod header;
+mod segments;
 
 pub use fault::{ImageFault, ImageKind};
