@@ -1,1 +1,2 @@
 pub mod ByAddressLemmas
+pub mod TableLemmas

@@ -4,6 +4,7 @@
 mod elf;
 mod fault;
 mod header;
+mod loads;
 mod segments;
 
 pub use fault::{ImageFault, ImageKind};

@@ -10,7 +10,7 @@ invariant_of-result c =
     let span = c.place.inside.0.0 in
     let place : Place = record { span = record { from = span.from; to = span.to }; offset = c.place.inside.0.1.0; size = c.place.inside.0.1.1.0 } in
     let apart : meets_any place.span c.args.list.items ≡ false =
-        subst (λ (p : Place). meets_any p.span c.args.list.items ≡ false) (sym c.place.view_is) c.requires.apart in
+    subst (λ (p : Place). meets_any p.span c.args.list.items ≡ false) (sym c.place.view_is) c.requires.apart in
     elim c.if-first-place.branch [
       | then-first-place+in_ok-insert w ↦
           rw (w.by_address-is, c.in_ok-push.ensures.items)
