@@ -1,2 +1,3 @@
 pub mod ByAddressLemmas
+pub mod ByNameLemmas
 pub mod TableLemmas

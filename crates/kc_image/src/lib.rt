@@ -6,5 +6,6 @@ mod fault;
 mod header;
 mod loads;
 mod segments;
+mod symbols;
 
 pub use fault::{ImageFault, ImageKind};
