@@ -117,8 +117,8 @@ module _ {S : Type 0} (old new : IndexMap (Vec ℕ) ℕ S) (name : List ℕ) (ad
   pub IsByName-push : (list : List Symbol) → IsByName list old → IsByName (list ++ record { name = i; value = address } ∷ []) new
   IsByName-push list by = record {
     within = All-push (λ (s : Symbol). s.name < index_map_len new) list (record { name = i; value = address })
-      (λ k d lt. omega (arith, by.within k d lt, named.grows)) named.within;
+        (λ k d lt. omega (arith, by.within k d lt, named.grows)) named.within;
     first = λ n.
-      named.first n ∙ rw (by.first n) (sym (ap (λ (es : List (List ℕ × ℕ)). lookup (bytes_eq n) es) (spelled-push list by.within)
+        named.first n ∙ rw (by.first n) (sym (ap (λ (es : List (List ℕ × ℕ)). lookup (bytes_eq n) es) (spelled-push list by.within)
         ∙ lookup_push (bytes_eq n) (spelled old list) name address));
   }

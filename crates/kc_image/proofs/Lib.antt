@@ -1,3 +1,4 @@
 pub mod ByAddressLemmas
 pub mod ByNameLemmas
 pub mod TableLemmas
+pub mod TextLemmas

@@ -5,6 +5,8 @@ mod elf;
 mod fault;
 mod header;
 mod loads;
+mod names;
+mod sections;
 mod segments;
 mod symbols;
 
