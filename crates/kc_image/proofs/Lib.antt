@@ -1,4 +1,5 @@
 pub mod ByAddressLemmas
 pub mod ByNameLemmas
+pub mod LoadedLemmas
 pub mod TableLemmas
 pub mod TextLemmas

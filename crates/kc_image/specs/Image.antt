@@ -1,5 +1,5 @@
 -- What an image file means: segments of bytes by address, and symbols by name.
-use Rattle.std.specs.Prelude.{ℕ, ◌+◌, ◌-◌, Bool, ◌&&◌, nat_le, nat_lt, max, min, List, [], ◌∷◌, length, take, drop, map, slice_index, Option, Some, None, if◌then◌else◌}
+use Rattle.std.specs.Prelude.{ℕ, zero, suc, ◌+◌, ◌-◌, Bool, ◌&&◌, nat_le, nat_lt, max, min, List, [], ◌∷◌, take, drop, map, slice_index, Option, Some, None, if◌then◌else◌}
 use Rattle.std.specs.List.{list_any}
 use Rattle.std.specs.Map.{lookup}
 use Rattle.std.specs.Str.{bytes_eq}
@@ -22,6 +22,10 @@ segment_at file p = record { range = p.span; bytes = take p.size (drop p.offset 
 
 abbrev pub segments_at : List ℕ → List Place → List Segment
 segments_at file places = map (segment_at file) places
+
+-- what the file holds at these places, with these symbols
+abbrev pub contents : List ℕ → List Place → List (List ℕ × ℕ) → Contents
+contents file places symbols = record { segments = segments_at file places; symbols = symbols }
 
 -- address a lies in the range
 abbrev pub holds : Range → ℕ → Bool
@@ -49,3 +53,13 @@ loaded (s ∷ ss) a = if holds s.range a then Some (slice_index s.bytes (a - s.r
 -- the address of the first symbol of this name
 abbrev pub address_of : List (List ℕ × ℕ) → List ℕ → Option ℕ
 address_of symbols name = lookup (bytes_eq name) symbols
+
+-- a byte, where there is one, and those behind it
+abbrev pub followed : Option ℕ → List ℕ → List ℕ
+followed None rest = []
+followed (Some b) rest = b ∷ rest
+
+-- the loaded bytes that follow each other from address a on, at most so many
+unfoldable pub run : List Segment → ℕ → ℕ → List ℕ
+run ss a zero = []
+run ss a (suc most) = followed (loaded ss a) (run ss (a + 1) most)

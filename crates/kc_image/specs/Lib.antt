@@ -5,3 +5,5 @@ pub mod Image
 pub mod ByAddress
 pub mod ByName
 pub mod FirstFault
+pub mod Raw
+pub mod ImageFile

@@ -4,10 +4,13 @@
 mod elf;
 mod fault;
 mod header;
+mod image;
 mod loads;
 mod names;
+mod raw;
 mod sections;
 mod segments;
 mod symbols;
 
 pub use fault::{ImageFault, ImageKind};
+pub use image::{Image, read_image};

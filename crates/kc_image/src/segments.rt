@@ -1,6 +1,6 @@
 //! The loaded segments of an image, in the file's order and by address.
 
-ghost use Rattle.std.specs.Prelude.{◌≡◌, ◌++◌, [], ◌∷◌, false, MatchResult};
+ghost use Rattle.std.specs.Prelude.{◌≡◌, ◌<◌, ◌-◌, ◌^◌, IsSome, ◌++◌, [], ◌∷◌, false, MatchResult};
 ghost use Rattle.kc_image.specs.ByAddress.{IsByAddress, IsLastUpTo};
 ghost use Rattle.kc_image.specs.Image.{meets_any, place_of_address};
 ghost use Rattle.kc_image.specs.Verdict.{no_memory};
@@ -77,7 +77,8 @@ impl Segments {
 
     /// The segment that holds the address.
     pub(crate) fn find(&self, a: u64) -> Option<Place>
-        ensures { result ≡ place_of_address self.now a }
+        ensures place { result ≡ place_of_address self.now a }
+        ensures inside { IsSome result → a < 2 ^ 64 - 1 }
     {
         match last_up_to(&self.by_address, a) {
             Some(place) => (a < place.span.to).then_some(place),

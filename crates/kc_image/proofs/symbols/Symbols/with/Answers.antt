@@ -1,4 +1,3 @@
-use Rattle.std.proofs.Common.{◌∙◌}
 use Rattle.kc_image.proofs.ByNameLemmas.{IsByName-push, spelled-push}
 use Rattle.kc_image.proofs.symbols.Symbols.with.Goals as goal
 
