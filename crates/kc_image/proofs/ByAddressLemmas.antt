@@ -40,7 +40,7 @@ holds_false r a absent =
 pub meets_true : (r s : Range) (a : ℕ) → Holds r a → Holds s a → meets r s ≡ true
 meets_true r s a h k = lt-ltb _ _ (omega (arith, h.0, h.1, k.0, k.1))
 
-no_meet : (list : List Place) (v q : Place) (a : ℕ) → meets_any v.span list ≡ false → Contains list q → Holds v.span a → Holds q.span a → ⊥
+pub no_meet : (list : List Place) (v q : Place) (a : ℕ) → meets_any v.span list ≡ false → Contains list q → Holds v.span a → Holds q.span a → ⊥
 no_meet list v q a none has h k =
     let at : meets v.span (get_or list has.0 q).span ≡ true = subst (λ (p : Place). meets v.span p.span ≡ true) (sym has.2) (meets_true v.span q.span a h k) in
     both_ways (meets_any v.span list) none (list_any_at (λ p. meets v.span p.span) list has.0 q has.1 at)

@@ -1,3 +1,4 @@
+pub mod ApartLemmas
 pub mod ByAddressLemmas
 pub mod ByNameLemmas
 pub mod LoadedLemmas

@@ -1,9 +1,10 @@
 -- What an image file means: segments of bytes by address, and symbols by name.
 use Rattle.std.specs.Prelude.{ℕ, zero, suc, ◌+◌, ◌-◌, Bool, ◌&&◌, nat_le, nat_lt, max, min, List, [], ◌∷◌, take, drop, map, slice_index, Option, Some, None, if◌then◌else◌}
-use Rattle.std.specs.List.{list_any}
+use Rattle.std.specs.List.{list_any, AllPairs}
 use Rattle.std.specs.Map.{lookup}
 use Rattle.std.specs.Str.{bytes_eq}
 use Rattle.kc_words.specs.Range.{Range}
+use Rattle.kc_words.specs.Span.{Meets}
 use Rattle.kc_image.specs.declared.segments.Place.{Place}
 
 -- a loaded segment: its addresses, and its bytes in the file, which the first addresses hold
@@ -49,6 +50,10 @@ place_of_address (p ∷ ps) a = if holds p.span a then Some p else place_of_addr
 abbrev pub loaded : List Segment → ℕ → Option ℕ
 loaded [] a = None
 loaded (s ∷ ss) a = if holds s.range a then Some (slice_index s.bytes (a - s.range.from)) else loaded ss a
+
+-- no address lies in two of the segments
+abbrev pub AreApart : List Segment → Type 0
+AreApart ss = AllPairs (λ s t. ¬ Meets s.range t.range) ss
 
 -- the address of the first symbol of this name
 abbrev pub address_of : List (List ℕ × ℕ) → List ℕ → Option ℕ

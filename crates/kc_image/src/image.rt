@@ -1,7 +1,7 @@
 //! Images: what an image file loads where, and its symbols.
 
 ghost use Rattle.std.specs.Prelude.{◌≡◌, ◌⊎◌, ◌-◌, ◌<◌, ◌^◌, ◌++◌, Err, Ok, IfOk, IfErr, IsSome, drop, length, slice_index};
-ghost use Rattle.kc_image.specs.Image.{contents, segment_at, loaded, run, address_of};
+ghost use Rattle.kc_image.specs.Image.{AreApart, contents, segment_at, loaded, run, address_of};
 ghost use Rattle.kc_image.specs.ImageFile.{elf, contents_of};
 ghost use Rattle.kc_image.specs.Verdict.{Gives, no_memory};
 
@@ -40,6 +40,7 @@ impl Model for Image {
 /// A refusal is the first rule that the file breaks, with its place, or `NoMemory`.
 pub fn read_image(alloc: Global, bytes: Vec<u8>) -> Result<Image, ImageFault>
     ensures read { IfOk result (λ i. contents_of bytes.items ≡ Ok i) }
+    ensures apart { IfOk result (λ i. AreApart i.segments) }
     // Want of memory is said of no file.
     ensures fault { IfErr result (λ e. (e ≡ no_memory) ⊎ (contents_of bytes.items ≡ Err e)) }
 {
