@@ -14,3 +14,6 @@ mod symbols;
 
 pub use fault::{ImageFault, ImageKind};
 pub use image::{Image, read_image};
+
+#[cfg(test)]
+mod tests;
