@@ -1,6 +1,6 @@
 -- No address lies in two segments of an image.
-use Rattle.std.proofs.Common.{◌≡◌, ℕ, ◌+◌, ◌-◌, ◌*◌, ◌^◌, ◌<◌, ◌≤◌, Bool, true, false, eqb, leb, ltb, List, [], ◌∷◌, ◌++◌, length, get_or, map, Result, Ok, Err, refl, sym, ap, subst, ◌∙◌, inl, inr, arith, nat_eq}
-use Rattle.std.specs.List.{AllPairs, starts_with}
+use Rattle.std.proofs.Common.{◌≡◌, ℕ, ◌+◌, ◌-◌, ◌^◌, Bool, true, false, eqb, leb, ltb, List, [], ◌∷◌, ◌++◌, length, get_or, Result, Ok, Err, refl, subst, inl, inr, arith}
+use Rattle.std.specs.List.{AllPairs}
 use Rattle.std.proofs.lemmas.Bool.{cases_Bool}
 use Rattle.std.proofs.lemmas.List.{length-map, get_or-map}
 use Rattle.std.proofs.lemmas.List.Elements.{Contains-get_or}
@@ -12,12 +12,12 @@ use Rattle.kc_image.specs.declared.fault.ImageKind.TheVariants.{HeaderOut, Segme
 use Rattle.kc_image.specs.declared.elf.FileHeader.{FileHeader}
 use Rattle.kc_image.specs.declared.elf.ProgramHeader.{ProgramHeader}
 use Rattle.kc_image.specs.declared.elf.TheConstants.{PHDR_SIZE, SHDR_SIZE, PT_LOAD}
-use Rattle.kc_image.specs.declared.raw.TheConstants.{RAW_MAGIC, RAW_ADDRESS, RAW_HEADER}
+use Rattle.kc_image.specs.declared.raw.TheConstants.{RAW_ADDRESS, RAW_HEADER}
 use Rattle.kc_image.specs.declared.segments.Place.{Place}
 use Rattle.kc_image.specs.Elf.{program_header}
 use Rattle.kc_image.specs.Field.{xword}
 use Rattle.kc_image.specs.Verdict.{refuse, over, ◌>>=◌}
-use Rattle.kc_image.specs.Image.{Segment, Contents, contents, segment_at, segments_at, meets_any, AreApart}
+use Rattle.kc_image.specs.Image.{Contents, contents, segment_at, segments_at, meets_any, AreApart}
 use Rattle.kc_image.specs.FirstFault.{passes, header, program_table, section_table, place_of, add_load, add_segment, add_section, entries}
 use Rattle.kc_image.specs.Raw.{is_raw, code_place, raw}
 use Rattle.kc_image.specs.ImageFile.{elf, contents_of}
