@@ -1,5 +1,5 @@
 -- Segments by address: what the greatest first address up to a place tells of all of them.
-use Rattle.std.proofs.Common.{◌≡◌, ℕ, zero, suc, ◌-◌, ◌<◌, ◌≤◌, true, false, ltb, List, [], ◌∷◌, ◌++◌, length, get_or, Option, Some, None, refl, sym, ap, subst, ◌∙◌, inl, inr, arith, nat_cmp}
+use Rattle.std.proofs.Common.{◌≡◌, ℕ, zero, suc, ◌-◌, ◌<◌, ◌≤◌, true, false, ltb, max, min, List, [], ◌∷◌, ◌++◌, length, get_or, Option, Some, None, refl, sym, ap, subst, ◌∙◌, inl, inr, arith, nat_cmp}
 use Rattle.std.specs.Prelude.{Contains, IsSome}
 use Rattle.std.specs.Bool.{then_some}
 use Rattle.std.specs.Map.{lookup}
@@ -12,7 +12,7 @@ use Rattle.std.proofs.lemmas.List.Elements.{Contains-push_cases, Contains-append
 use Rattle.std.proofs.lemmas.Map.Lookups.{exact_unsigned}
 use Rattle.std.proofs.lemmas.Map.Views.{tells_apart}
 use Rattle.kc_words.specs.Range.{Range}
-use Rattle.kc_words.specs.Span.{Holds}
+use Rattle.kc_words.specs.Span.{Holds, Meets}
 use Rattle.kc_image.specs.declared.segments.Place.{Place}
 use Rattle.kc_image.specs.Image.{holds, meets, meets_any, place_of_address}
 use Rattle.kc_image.specs.ByAddress.{IsByAddress}
@@ -39,6 +39,11 @@ holds_false r a absent =
 
 pub meets_true : (r s : Range) (a : ℕ) → Holds r a → Holds s a → meets r s ≡ true
 meets_true r s a h k = lt-ltb _ _ (omega (arith, h.0, h.1, k.0, k.1))
+
+pub meets-from : (r s : Range) → meets r s ≡ true → Meets r s
+meets-from r s h =
+    let lt : max r.from s.from < min r.to s.to = ltb-true _ _ h in
+    (max r.from s.from, (omega (arith, lt), omega (arith, lt)), (omega (arith, lt), omega (arith, lt)))
 
 pub no_meet : (list : List Place) (v q : Place) (a : ℕ) → meets_any v.span list ≡ false → Contains list q → Holds v.span a → Holds q.span a → ⊥
 no_meet list v q a none has h k =

@@ -105,6 +105,20 @@ impl Image {
         15
     }
 
+    /// How many segments the file has, those without an address included.
+    pub fn segment_count(&self) -> usize
+        ensures { result ≡ length self.now.segments }
+    {
+        self.segments.len()
+    }
+
+    /// How many symbols are kept.
+    pub fn symbol_count(&self) -> usize
+        ensures { result ≡ length self.now.symbols }
+    {
+        self.symbols.len()
+    }
+
     /// The address of the first kept symbol of this name.
     pub fn symbol(&self, name: &str) -> Option<u64>
         ensures { result ≡ address_of self.now.symbols name.now }

@@ -5,6 +5,7 @@ mod elf;
 mod fault;
 mod header;
 mod image;
+mod laws;
 mod loads;
 mod names;
 mod raw;
@@ -14,6 +15,7 @@ mod symbols;
 
 pub use fault::{ImageFault, ImageKind};
 pub use image::{Image, read_image};
+pub use laws::ranges_meet_in_an_address;
 
 #[cfg(test)]
 mod tests;

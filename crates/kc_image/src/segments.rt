@@ -1,6 +1,6 @@
 //! The loaded segments of an image, in the file's order and by address.
 
-ghost use Rattle.std.specs.Prelude.{◌≡◌, ◌<◌, ◌-◌, ◌^◌, IsSome, ◌++◌, [], ◌∷◌, false, MatchResult};
+ghost use Rattle.std.specs.Prelude.{◌≡◌, ◌<◌, ◌-◌, ◌^◌, IsSome, ◌++◌, [], ◌∷◌, length, false, MatchResult};
 ghost use Rattle.kc_image.specs.ByAddress.{IsByAddress, IsLastUpTo};
 ghost use Rattle.kc_image.specs.Image.{meets_any, place_of_address};
 ghost use Rattle.kc_image.specs.Verdict.{no_memory};
@@ -51,6 +51,12 @@ impl Segments {
             list: Vec::new(alloc),
             by_address: BTreeMap::new(alloc),
         }
+    }
+
+    pub(crate) fn len(&self) -> usize
+        ensures { result ≡ length self.now }
+    {
+        self.list.len()
     }
 
     /// Whether some address of the span lies in one of the segments.

@@ -1,6 +1,6 @@
 //! The kept symbols of an image, in the file's order and by name.
 
-ghost use Rattle.std.specs.Prelude.{◌≡◌, ◌++◌, [], ◌∷◌, MatchResult, IfOk};
+ghost use Rattle.std.specs.Prelude.{◌≡◌, ◌++◌, [], ◌∷◌, length, MatchResult};
 ghost use Rattle.kc_image.specs.Image.{address_of};
 ghost use Rattle.kc_image.specs.ByName.{IsByName, Names};
 ghost use Rattle.kc_image.specs.Verdict.{no_memory};
@@ -44,6 +44,12 @@ impl Symbols {
             list: Vec::new(alloc),
             names: IndexMap::new(alloc),
         }
+    }
+
+    pub(crate) fn len(&self) -> usize
+        ensures { result ≡ length self.now }
+    {
+        self.list.len()
     }
 
     /// With one symbol more.
