@@ -1,0 +1,24 @@
+use Rattle.std.proofs.Common.{arith}
+use Rattle.std.proofs.lemmas.Result.{err_from_is_err_and}
+use Rattle.kc_image.specs.FirstFault.{add_section}
+use Rattle.kc_image.proofs.TableLemmas.{section_bound, over_more, over_fails, over_all}
+use Rattle.kc_image.proofs.sections.read_symbols.Goals as goal
+
+pub overflow_add-at : goal.overflow_add-at
+overflow_add-at c = omega (arith, section_bound c.args.file.now c.args.header.now (omega arith) c.requires)
+
+pub with_section-requires-clause-inside : goal.with_section-requires-clause-inside
+with_section-requires-clause-inside c = omega (arith, section_bound c.args.file.now c.args.header.now (omega arith) c.requires)
+
+pub returns-in_err-symbols : goal.returns-in_err-symbols
+returns-in_err-symbols c =
+    let exit = err_from_is_err_and c.from_residual.result c.from_residual.ensures.1 in
+    rw (exit.1, exit.2)
+    (over_fails (add_section c.args.file.now c.args.header.now) _ _ _ _ _ _ _ c.in_err-symbols.field-0.0 c.loop-i-test.true (omega (arith, c.from.ensures)) c.in_err-symbols.ensures c.loop-i.invariant)
+
+pub loop-i-preserved : goal.loop-i-preserved
+loop-i-preserved c =
+    over_more (add_section c.args.file.now c.args.header.now) _ _ _ _ _ _ _ _ c.loop-i-test.true (omega (arith, c.from.ensures)) c.in_ok-symbols.ensures c.loop-i.invariant
+
+pub returns : goal.returns
+returns c = over_all (add_section c.args.file.now c.args.header.now) _ _ _ _ _ _ c.loop-i-test.false c.loop-i.invariant

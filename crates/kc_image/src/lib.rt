@@ -1,0 +1,21 @@
+//! ELF-64 and raw images of kernel code: the loaded bytes by address, and the symbols by name.
+#![tactic(auto)]
+
+mod elf;
+mod fault;
+mod header;
+mod image;
+mod laws;
+mod loads;
+mod names;
+mod raw;
+mod sections;
+mod segments;
+mod symbols;
+
+pub use fault::{ImageFault, ImageKind};
+pub use image::{Image, read_image};
+pub use laws::ranges_meet_in_an_address;
+
+#[cfg(test)]
+mod tests;
