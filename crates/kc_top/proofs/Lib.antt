@@ -3,3 +3,4 @@ pub mod WordsLemmas
 pub mod PathLemmas
 pub mod SafeLemmas
 pub mod OutputLemmas
+pub mod UniqueLemmas

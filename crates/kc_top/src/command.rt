@@ -1,12 +1,14 @@
 //! All that the program does.
 
-ghost use Rattle.std.specs.Prelude.{◌≡◌, ◌≢◌, ◌≤◌, ℕ, List, IfOk, None};
+ghost use Rattle.std.specs.Prelude.{Some, ◌≡◌, ◌≢◌, ◌≤◌, ℕ, List, IfOk, None};
 ghost use Rattle.std.specs.Io.KnownBytes.{Appends, Keeps};
 ghost use Rattle.kc_io.specs.Count.{Rose};
+ghost use Rattle.kc_io.specs.Files.{Held};
+ghost use Rattle.kc_top.specs.declared.outcome.Outcome.{Outcome as OutcomeValue};
 ghost use Rattle.kc_io.specs.Sink.{Refuses};
 ghost use Rattle.kc_top.specs.Words.{request_of};
 ghost use Rattle.kc_top.specs.Form.{code_of};
-ghost use Rattle.kc_top.specs.Output.{IsCertDue, IsConfigDue, IsCheckDue, IsDue, IsUnread, Tells, AcceptsSafe};
+ghost use Rattle.kc_top.specs.Output.{IsCertDue, IsConfigDue, IsCheckDue, IsDue, IsUnread, Tells, AcceptsSafe, HoldsFiles};
 
 use crate::form::RawCode;
 use crate::letters::{judge, letter_fault};
@@ -157,3 +159,13 @@ pub fn run<F: Files, S: Sink>(alloc: Global, words: &Words, files: &mut F, out: 
         },
     }
 }
+
+/// Over files that tell what they hold, no two outcomes are due where no read fails, and one is due
+/// where they hold each file of the words. So the statuses exclude each other, and each comes exactly
+/// where its case of the definition holds.
+pub fn one_outcome()
+    ensures one { (held : Held) (words : List (List ℕ)) (o p : OutcomeValue) →
+        IsDue (Some held) (λ _. ⊥) words o → IsDue (Some held) (λ _. ⊥) words p → o ≡ p }
+    ensures some { (held : Held) (words : List (List ℕ)) →
+        HoldsFiles (Some held) (request_of words) → (o : OutcomeValue) × IsDue (Some held) (λ _. ⊥) words o }
+{}

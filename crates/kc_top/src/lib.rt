@@ -13,7 +13,7 @@ mod status;
 mod straight;
 mod words;
 
-pub use command::run;
+pub use command::{one_outcome, run};
 pub use memory::run_in_memory;
 pub use outcome::Outcome;
 pub use status::Status;
