@@ -4,4 +4,6 @@
 #[cfg(test)]
 mod check;
 #[cfg(test)]
+mod plain;
+#[cfg(test)]
 mod runner;

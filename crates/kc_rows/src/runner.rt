@@ -30,7 +30,8 @@ fn words_of(alloc: Global, words: &[&str]) -> Result<Words, NoMemory> {
     Ok(all)
 }
 
-fn files_of(alloc: Global, held: &[Held<'_>], failing: &[u64]) -> Result<MemFiles, NoMemory> {
+/// Files in memory; the reads of these numbers fail.
+pub fn files_of(alloc: Global, held: &[Held<'_>], failing: &[u64]) -> Result<MemFiles, NoMemory> {
     let mut names = Vec::new(alloc);
     let mut bytes = Vec::new(alloc);
     for file in held {
