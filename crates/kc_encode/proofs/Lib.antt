@@ -1,0 +1,5 @@
+mod Numbers
+mod Operands
+mod Opcodes
+mod Spelled
+mod RoundTrip

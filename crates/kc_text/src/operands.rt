@@ -1,0 +1,150 @@
+//! The text of operands.
+
+ghost use Rattle.std.specs.Prelude.{◌≡◌, ◌+◌, ◌≤◌, ◌++◌, length};
+ghost use Rattle.kc_text.specs.Text.{register_text, index_text, parts_text, disp_text, address_text, memory_text, place_text, source_text, sized_text, operands_text};
+
+use crate::line::{Line, put, put_hex, put_number};
+use crate::names::{register_name, scale_name, size_word};
+use kc_insn::{Base, Mem, Place, Reg, Source};
+use kc_words::Width;
+
+pub fn put_register(line: &mut Line, w: Width, r: Reg)
+    requires room { length line.old.items + 4 ≤ 96 }
+    ensures text { line.new.items ≡ line.old.items ++ register_text w r }
+    ensures len { length line.new.items ≤ length line.old.items + 4 }
+{
+    put(line, register_name(w, r));
+}
+
+fn put_index(line: &mut Line, index: (Reg, u8))
+    requires room { length line.old.items + 6 ≤ 96 }
+    ensures text { line.new.items ≡ line.old.items ++ index_text index }
+    ensures len { length line.new.items ≤ length line.old.items + 6 }
+{
+    put_register(line, Width::Quad, index.0);
+    put(line, scale_name(index.1));
+}
+
+fn put_parts(line: &mut Line, base: Base, index: Option<(Reg, u8)>)
+    requires room { length line.old.items + 11 ≤ 96 }
+    ensures text { line.new.items ≡ line.old.items ++ parts_text base index }
+    ensures len { length line.new.items ≤ length line.old.items + 11 }
+{
+    match base {
+        Base::Absent => {}
+        Base::Rip => put(line, "rip"),
+        Base::Reg(r) => put_register(line, Width::Quad, r),
+    }
+    if let Some(i) = index {
+        if base != Base::Absent {
+            put(line, "+");
+        }
+        put_index(line, i);
+    }
+}
+
+/// A displacement behind a base or an index.
+fn put_disp(line: &mut Line, disp: i32)
+    requires room { length line.old.items + 19 ≤ 96 }
+    ensures text { line.new.items ≡ line.old.items ++ disp_text disp }
+    ensures len { length line.new.items ≤ length line.old.items + 19 }
+{
+    if disp > 0 {
+        put(line, "+");
+    }
+    if disp < 0 {
+        put(line, "-");
+    }
+    if disp != 0 {
+        put_hex(line, u64::from(disp.unsigned_abs()));
+    }
+}
+
+fn put_address(line: &mut Line, m: Mem)
+    requires room { length line.old.items + 30 ≤ 96 }
+    ensures text { line.new.items ≡ line.old.items ++ address_text m.base m.index m.disp }
+    ensures len { length line.new.items ≤ length line.old.items + 30 }
+{
+    if m.base == Base::Absent && m.index.is_none() {
+        put_number(line, i64::from(m.disp));
+    } else {
+        put_parts(line, m.base, m.index);
+        put_disp(line, m.disp);
+    }
+}
+
+pub fn put_memory(line: &mut Line, m: Mem)
+    requires room { length line.old.items + 35 ≤ 96 }
+    ensures text { line.new.items ≡ line.old.items ++ memory_text m }
+    ensures len { length line.new.items ≤ length line.old.items + 35 }
+{
+    if m.gs {
+        put(line, "gs:");
+    }
+    put(line, "[");
+    put_address(line, m);
+    put(line, "]");
+}
+
+pub fn put_place(line: &mut Line, w: Width, p: Place)
+    requires room { length line.old.items + 35 ≤ 96 }
+    ensures text { line.new.items ≡ line.old.items ++ place_text w p }
+    ensures len { length line.new.items ≤ length line.old.items + 35 }
+{
+    match p {
+        Place::Reg(r) => put_register(line, w, r),
+        Place::Mem(m) => put_memory(line, m),
+    }
+}
+
+pub fn put_source(line: &mut Line, w: Width, s: Source)
+    requires room { length line.old.items + 35 ≤ 96 }
+    ensures text { line.new.items ≡ line.old.items ++ source_text w s }
+    ensures len { length line.new.items ≤ length line.old.items + 35 }
+{
+    match s {
+        Source::Reg(r) => put_register(line, w, r),
+        Source::Mem(m) => put_memory(line, m),
+        Source::Imm(z) => put_number(line, z),
+    }
+}
+
+/// An operand that has no register beside it.
+pub fn put_sized(line: &mut Line, w: Width, p: Place)
+    requires room { length line.old.items + 41 ≤ 96 }
+    ensures text { line.new.items ≡ line.old.items ++ sized_text w p }
+    ensures len { length line.new.items ≤ length line.old.items + 41 }
+{
+    match p {
+        Place::Reg(r) => put_register(line, w, r),
+        Place::Mem(m) => {
+            put(line, size_word(w));
+            put_memory(line, m);
+        }
+    }
+}
+
+/// Two operands, the one that is written first.
+pub fn put_operands(line: &mut Line, w: Width, p: Place, s: Source)
+    requires room { length line.old.items + 78 ≤ 96 }
+    ensures text { line.new.items ≡ line.old.items ++ operands_text w p s }
+    ensures len { length line.new.items ≤ length line.old.items + 78 }
+{
+    match s {
+        Source::Imm(z) => {
+            put_sized(line, w, p);
+            put(line, ", ");
+            put_number(line, z);
+        }
+        Source::Reg(r) => {
+            put_place(line, w, p);
+            put(line, ", ");
+            put_register(line, w, r);
+        }
+        Source::Mem(m) => {
+            put_place(line, w, p);
+            put(line, ", ");
+            put_memory(line, m);
+        }
+    }
+}
