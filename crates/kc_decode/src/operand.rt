@@ -40,6 +40,7 @@ fn disp_size(mode: u8, field: u8) -> Disp
     }
 }
 
+/// The displacement of this size that stands at the front, as a signed number, and what follows it.
 #[tactic(auto, unfolding(crate::specs::Reading::disp_at))]
 pub fn displacement(size: Disp, bytes: &[u8]) -> Result<(i32, &[u8]), DecodeFault>
     ensures { Gives (λ x. (x.0, x.1.now)) result (disp_at (disp_of size) bytes.now) }

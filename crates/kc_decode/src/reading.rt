@@ -47,12 +47,14 @@ fn opcode(head: Head, op: u8, bytes: &[u8]) -> Result<(Draft, &[u8]), DecodeFaul
     }
 }
 
+/// Whether the byte is a REX prefix, 40 to 4F.
 pub fn is_rex(b: u8) -> bool
     ensures { result ≡ is_rex_byte b }
 {
     b >= 64 && b < 80
 }
 
+/// The four bits of a REX prefix.
 pub fn rex_of(b: u8) -> Rex
     ensures { result ≡ rex_bits b }
 {
