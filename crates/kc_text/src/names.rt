@@ -90,6 +90,7 @@ pub fn condition_name(code: u8) -> &'static str
     }
 }
 
+/// The mnemonic of the arithmetic.
 pub fn alu_name(op: AluOp) -> &'static str
     ensures is { result.now ≡ alu_text op }
     ensures short { length result.now ≤ 3 }
@@ -104,6 +105,7 @@ pub fn alu_name(op: AluOp) -> &'static str
     }
 }
 
+/// The mnemonic of the bit's operation.
 pub fn bit_name(op: BitOp) -> &'static str
     ensures is { result.now ≡ bit_text op }
     ensures short { length result.now ≤ 3 }

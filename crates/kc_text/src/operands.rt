@@ -8,6 +8,7 @@ use crate::names::{register_name, scale_name, size_word};
 use kc_insn::{Base, Mem, Place, Reg, Source};
 use kc_words::Width;
 
+/// Puts the register's name at this width.
 pub fn put_register(line: &mut Line, w: Width, r: Reg)
     requires room { length line.old.items + 4 ≤ 96 }
     ensures text { line.new.items ≡ line.old.items ++ register_text w r }
@@ -73,6 +74,7 @@ fn put_address(line: &mut Line, m: Mem)
     }
 }
 
+/// Puts the memory operand, without a size word.
 pub fn put_memory(line: &mut Line, m: Mem)
     requires room { length line.old.items + 35 ≤ 96 }
     ensures text { line.new.items ≡ line.old.items ++ memory_text m }
@@ -86,6 +88,7 @@ pub fn put_memory(line: &mut Line, m: Mem)
     put(line, "]");
 }
 
+/// Puts the operand that is written, without a size word.
 pub fn put_place(line: &mut Line, w: Width, p: Place)
     requires room { length line.old.items + 35 ≤ 96 }
     ensures text { line.new.items ≡ line.old.items ++ place_text w p }
@@ -97,6 +100,7 @@ pub fn put_place(line: &mut Line, w: Width, p: Place)
     }
 }
 
+/// Puts the operand that is read, without a size word.
 pub fn put_source(line: &mut Line, w: Width, s: Source)
     requires room { length line.old.items + 35 ≤ 96 }
     ensures text { line.new.items ≡ line.old.items ++ source_text w s }
