@@ -292,7 +292,7 @@ fn test_rax(head: Head, bytes: &[u8]) -> Result<(Draft, &[u8]), DecodeFault>
     let w = width_of(head.rex);
     let (value, rest) = immediate(w, Size::Four, bytes)?;
     Ok((
-        Draft::Whole(Insn::Test(w, Place::Reg(Reg(0)), Source::Imm(value))),
+        Draft::Whole(Insn::Test(w, Place::Reg(Reg::RAX), Source::Imm(value))),
         rest,
     ))
 }
@@ -303,7 +303,7 @@ fn test_al(head: Head, bytes: &[u8]) -> Result<(Draft, &[u8]), DecodeFault>
 {
     let (value, rest) = immediate(Width::Byte, Size::One, bytes)?;
     Ok((
-        Draft::Whole(Insn::Test(Width::Byte, Place::Reg(Reg(0)), Source::Imm(value))),
+        Draft::Whole(Insn::Test(Width::Byte, Place::Reg(Reg::RAX), Source::Imm(value))),
         rest,
     ))
 }

@@ -10,46 +10,16 @@ const LONG: Width = Width::Long;
 
 const QUAD: Width = Width::Quad;
 
-const RAX: Reg = Reg(0);
-
-const RCX: Reg = Reg(1);
-
-const RBX: Reg = Reg(3);
-
-const RSP: Reg = Reg(4);
-
-const RBP: Reg = Reg(5);
-
-const RSI: Reg = Reg(6);
-
-const RDI: Reg = Reg(7);
-
-const R8: Reg = Reg(8);
-
-const R9: Reg = Reg(9);
-
-const R10: Reg = Reg(10);
-
-const R11: Reg = Reg(11);
-
-const R12: Reg = Reg(12);
-
-const R13: Reg = Reg(13);
-
-const R14: Reg = Reg(14);
-
-const R15: Reg = Reg(15);
-
 const GS_R12: Mem = Mem {
     gs: true,
-    base: Base::Reg(R12),
+    base: Base::Reg(Reg::R12),
     index: None,
     disp: 0,
 };
 
 const AT_R13: Mem = Mem {
     gs: false,
-    base: Base::Reg(R13),
+    base: Base::Reg(Reg::R13),
     index: None,
     disp: 0,
 };
@@ -84,84 +54,84 @@ const GS_RIP_LESS_10: Mem = Mem {
 
 const AT_RSP: Mem = Mem {
     gs: false,
-    base: Base::Reg(RSP),
+    base: Base::Reg(Reg::RSP),
     index: None,
     disp: 0,
 };
 
 const AT_RBP: Mem = Mem {
     gs: false,
-    base: Base::Reg(RBP),
+    base: Base::Reg(Reg::RBP),
     index: None,
     disp: 0,
 };
 
 const R12_PLUS_7F: Mem = Mem {
     gs: false,
-    base: Base::Reg(R12),
+    base: Base::Reg(Reg::R12),
     index: None,
     disp: 0x7f,
 };
 
 const R13_PLUS_80: Mem = Mem {
     gs: false,
-    base: Base::Reg(R13),
+    base: Base::Reg(Reg::R13),
     index: None,
     disp: 0x80,
 };
 
 const RAX_RCX_LESS_80: Mem = Mem {
     gs: false,
-    base: Base::Reg(RAX),
-    index: Some((RCX, 1)),
+    base: Base::Reg(Reg::RAX),
+    index: Some((Reg::RCX, 1)),
     disp: -0x80,
 };
 
 const RBP_R9_8: Mem = Mem {
     gs: false,
-    base: Base::Reg(RBP),
-    index: Some((R9, 8)),
+    base: Base::Reg(Reg::RBP),
+    index: Some((Reg::R9, 8)),
     disp: 0,
 };
 
 const ABSOLUTE_RCX: Mem = Mem {
     gs: false,
     base: Base::Absent,
-    index: Some((RCX, 1)),
+    index: Some((Reg::RCX, 1)),
     disp: 0,
 };
 
 const ABSOLUTE_R12_4_PLUS_8: Mem = Mem {
     gs: false,
     base: Base::Absent,
-    index: Some((R12, 4)),
+    index: Some((Reg::R12, 4)),
     disp: 8,
 };
 
 const RSP_RBP_2_LESS_81: Mem = Mem {
     gs: false,
-    base: Base::Reg(RSP),
-    index: Some((RBP, 2)),
+    base: Base::Reg(Reg::RSP),
+    index: Some((Reg::RBP, 2)),
     disp: -0x81,
 };
 
 const GS_R15_R15_8_PLUS_7FFFFFFF: Mem = Mem {
     gs: true,
-    base: Base::Reg(R15),
-    index: Some((R15, 8)),
+    base: Base::Reg(Reg::R15),
+    index: Some((Reg::R15, 8)),
     disp: 0x7fff_ffff,
 };
 
 const R13_RAX: Mem = Mem {
     gs: false,
-    base: Base::Reg(R13),
-    index: Some((RAX, 1)),
+    base: Base::Reg(Reg::R13),
+    index: Some((Reg::RAX, 1)),
     disp: 0,
 };
 
 const RSP_PLUS_8: Mem = Mem {
     gs: false,
-    base: Base::Reg(RSP),
+    base: Base::Reg(Reg::RSP),
     index: None,
     disp: 8,
 };
@@ -175,36 +145,36 @@ const RIP_PLUS_4: Mem = Mem {
 
 const R8_PLUS_800: Mem = Mem {
     gs: false,
-    base: Base::Reg(R8),
+    base: Base::Reg(Reg::R8),
     index: None,
     disp: 0x800,
 };
 
 const RSP_PLUS_565D4154: Mem = Mem {
     gs: false,
-    base: Base::Reg(RSP),
+    base: Base::Reg(Reg::RSP),
     index: None,
     disp: 0x565d_4154,
 };
 
 const RDI_PLUS_50BB692: Mem = Mem {
     gs: false,
-    base: Base::Reg(RDI),
+    base: Base::Reg(Reg::RDI),
     index: None,
     disp: 0x50b_b692,
 };
 
 const GS_RSI_LESS_5E8C2C6E: Mem = Mem {
     gs: true,
-    base: Base::Reg(RSI),
+    base: Base::Reg(Reg::RSI),
     index: None,
     disp: -0x5e8c_2c6e,
 };
 
 const GS_RDI_RSI_2_LESS_1001: Mem = Mem {
     gs: true,
-    base: Base::Reg(RDI),
-    index: Some((RSI, 2)),
+    base: Base::Reg(Reg::RDI),
+    index: Some((Reg::RSI, 2)),
     disp: -0x1001,
 };
 
@@ -217,22 +187,22 @@ const ABSOLUTE_LESS_6E36172F: Mem = Mem {
 
 const RSI_R14_8_PLUS_7FFFFFFF: Mem = Mem {
     gs: false,
-    base: Base::Reg(RSI),
-    index: Some((R14, 8)),
+    base: Base::Reg(Reg::RSI),
+    index: Some((Reg::R14, 8)),
     disp: 0x7fff_ffff,
 };
 
 const R9_R10: Mem = Mem {
     gs: false,
-    base: Base::Reg(R9),
-    index: Some((R10, 1)),
+    base: Base::Reg(Reg::R9),
+    index: Some((Reg::R10, 1)),
     disp: 0,
 };
 
 const ABSOLUTE_R11_LESS_80: Mem = Mem {
     gs: false,
     base: Base::Absent,
-    index: Some((R11, 1)),
+    index: Some((Reg::R11, 1)),
     disp: -0x80,
 };
 
@@ -258,23 +228,23 @@ const CASES: &[(Insn, u64, &[u8])] = &[
     (Insn::Pushfq, AT, &[0x9c]),
     (Insn::Popfq, AT, &[0x9d]),
     (Insn::Ret, AT, &[0xc3]),
-    (Insn::ReadCr3(RAX), AT, &[0x0f, 0x20, 0xd8]),
-    (Insn::ReadCr3(R13), AT, &[0x41, 0x0f, 0x20, 0xdd]),
-    (Insn::WriteCr3(RAX), AT, &[0x0f, 0x22, 0xd8]),
-    (Insn::WriteCr3(R13), AT, &[0x41, 0x0f, 0x22, 0xdd]),
-    (Insn::ReadGs(RAX), AT, &[0xf3, 0x48, 0x0f, 0xae, 0xc8]),
-    (Insn::ReadGs(R13), AT, &[0xf3, 0x49, 0x0f, 0xae, 0xcd]),
-    (Insn::WriteGs(RAX), AT, &[0xf3, 0x48, 0x0f, 0xae, 0xd8]),
-    (Insn::WriteGs(R8), AT, &[0xf3, 0x49, 0x0f, 0xae, 0xd8]),
-    (Insn::WriteGs(R13), AT, &[0xf3, 0x49, 0x0f, 0xae, 0xdd]),
+    (Insn::ReadCr3(Reg::RAX), AT, &[0x0f, 0x20, 0xd8]),
+    (Insn::ReadCr3(Reg::R13), AT, &[0x41, 0x0f, 0x20, 0xdd]),
+    (Insn::WriteCr3(Reg::RAX), AT, &[0x0f, 0x22, 0xd8]),
+    (Insn::WriteCr3(Reg::R13), AT, &[0x41, 0x0f, 0x22, 0xdd]),
+    (Insn::ReadGs(Reg::RAX), AT, &[0xf3, 0x48, 0x0f, 0xae, 0xc8]),
+    (Insn::ReadGs(Reg::R13), AT, &[0xf3, 0x49, 0x0f, 0xae, 0xcd]),
+    (Insn::WriteGs(Reg::RAX), AT, &[0xf3, 0x48, 0x0f, 0xae, 0xd8]),
+    (Insn::WriteGs(Reg::R8), AT, &[0xf3, 0x49, 0x0f, 0xae, 0xd8]),
+    (Insn::WriteGs(Reg::R13), AT, &[0xf3, 0x49, 0x0f, 0xae, 0xdd]),
     (
-        Insn::Mov(QUAD, Place::Reg(RAX), Source::Imm(0)),
+        Insn::Mov(QUAD, Place::Reg(Reg::RAX), Source::Imm(0)),
         AT,
         &[0x48, 0xc7, 0xc0, 0x00, 0x00, 0x00, 0x00],
     ),
     (Insn::Push(Source::Imm(0)), AT, &[0x6a, 0x00]),
     (
-        Insn::Alu(AluOp::And, QUAD, Place::Reg(RSP), Source::Imm(0)),
+        Insn::Alu(AluOp::And, QUAD, Place::Reg(Reg::RSP), Source::Imm(0)),
         AT,
         &[0x48, 0x83, 0xe4, 0x00],
     ),
@@ -290,7 +260,7 @@ const CASES: &[(Insn, u64, &[u8])] = &[
         &[0x41, 0x83, 0x7d, 0x00, 0x7f],
     ),
     (
-        Insn::Mov(QUAD, Place::Reg(RAX), Source::Imm(0x80)),
+        Insn::Mov(QUAD, Place::Reg(Reg::RAX), Source::Imm(0x80)),
         AT,
         &[0x48, 0xc7, 0xc0, 0x80, 0x00, 0x00, 0x00],
     ),
@@ -300,12 +270,12 @@ const CASES: &[(Insn, u64, &[u8])] = &[
         &[0x68, 0x80, 0x00, 0x00, 0x00],
     ),
     (
-        Insn::Alu(AluOp::And, QUAD, Place::Reg(RSP), Source::Imm(0x80)),
+        Insn::Alu(AluOp::And, QUAD, Place::Reg(Reg::RSP), Source::Imm(0x80)),
         AT,
         &[0x48, 0x81, 0xe4, 0x80, 0x00, 0x00, 0x00],
     ),
     (
-        Insn::Mov(LONG, Place::Reg(R9), Source::Imm(0x80)),
+        Insn::Mov(LONG, Place::Reg(Reg::R9), Source::Imm(0x80)),
         AT,
         &[0x41, 0xb9, 0x80, 0x00, 0x00, 0x00],
     ),
@@ -315,28 +285,33 @@ const CASES: &[(Insn, u64, &[u8])] = &[
         &[0x41, 0x81, 0x7d, 0x00, 0x80, 0x00, 0x00, 0x00],
     ),
     (
-        Insn::Mov(QUAD, Place::Reg(RAX), Source::Imm(-0x80)),
+        Insn::Mov(QUAD, Place::Reg(Reg::RAX), Source::Imm(-0x80)),
         AT,
         &[0x48, 0xc7, 0xc0, 0x80, 0xff, 0xff, 0xff],
     ),
     (Insn::Push(Source::Imm(-0x80)), AT, &[0x6a, 0x80]),
     (
-        Insn::Alu(AluOp::And, QUAD, Place::Reg(RSP), Source::Imm(-0x80)),
+        Insn::Alu(AluOp::And, QUAD, Place::Reg(Reg::RSP), Source::Imm(-0x80)),
         AT,
         &[0x48, 0x83, 0xe4, 0x80],
     ),
     (
-        Insn::Mov(QUAD, Place::Reg(RAX), Source::Imm(-0x81)),
+        Insn::Mov(QUAD, Place::Reg(Reg::RAX), Source::Imm(-0x81)),
         AT,
         &[0x48, 0xc7, 0xc0, 0x7f, 0xff, 0xff, 0xff],
     ),
     (
-        Insn::Mov(QUAD, Place::Reg(RAX), Source::Imm(0x7fff_ffff)),
+        Insn::Mov(QUAD, Place::Reg(Reg::RAX), Source::Imm(0x7fff_ffff)),
         AT,
         &[0x48, 0xc7, 0xc0, 0xff, 0xff, 0xff, 0x7f],
     ),
     (
-        Insn::Alu(AluOp::And, QUAD, Place::Reg(RSP), Source::Imm(0x7fff_ffff)),
+        Insn::Alu(
+            AluOp::And,
+            QUAD,
+            Place::Reg(Reg::RSP),
+            Source::Imm(0x7fff_ffff),
+        ),
         AT,
         &[0x48, 0x81, 0xe4, 0xff, 0xff, 0xff, 0x7f],
     ),
@@ -346,12 +321,12 @@ const CASES: &[(Insn, u64, &[u8])] = &[
         &[0x65, 0x49, 0xc7, 0x04, 0x24, 0xff, 0xff, 0xff, 0x7f],
     ),
     (
-        Insn::Mov(LONG, Place::Reg(R9), Source::Imm(0x7fff_ffff)),
+        Insn::Mov(LONG, Place::Reg(Reg::R9), Source::Imm(0x7fff_ffff)),
         AT,
         &[0x41, 0xb9, 0xff, 0xff, 0xff, 0x7f],
     ),
     (
-        Insn::Mov(QUAD, Place::Reg(RAX), Source::Imm(-0x8000_0000)),
+        Insn::Mov(QUAD, Place::Reg(Reg::RAX), Source::Imm(-0x8000_0000)),
         AT,
         &[0x48, 0xc7, 0xc0, 0x00, 0x00, 0x00, 0x80],
     ),
@@ -366,12 +341,12 @@ const CASES: &[(Insn, u64, &[u8])] = &[
         &[0x65, 0x49, 0xc7, 0x04, 0x24, 0x00, 0x00, 0x00, 0x80],
     ),
     (
-        Insn::Mov(QUAD, Place::Reg(RAX), Source::Imm(0x8000_0000)),
+        Insn::Mov(QUAD, Place::Reg(Reg::RAX), Source::Imm(0x8000_0000)),
         AT,
         &[0x48, 0xb8, 0x00, 0x00, 0x00, 0x80, 0x00, 0x00, 0x00, 0x00],
     ),
     (
-        Insn::Mov(LONG, Place::Reg(R9), Source::Imm(0x8000_0000)),
+        Insn::Mov(LONG, Place::Reg(Reg::R9), Source::Imm(0x8000_0000)),
         AT,
         &[0x41, 0xb9, 0x00, 0x00, 0x00, 0x80],
     ),
@@ -386,17 +361,17 @@ const CASES: &[(Insn, u64, &[u8])] = &[
         &[0x41, 0x81, 0x7d, 0x00, 0x00, 0x00, 0x00, 0x80],
     ),
     (
-        Insn::Mov(QUAD, Place::Reg(RAX), Source::Imm(-0x8000_0001)),
+        Insn::Mov(QUAD, Place::Reg(Reg::RAX), Source::Imm(-0x8000_0001)),
         AT,
         &[0x48, 0xb8, 0xff, 0xff, 0xff, 0x7f, 0xff, 0xff, 0xff, 0xff],
     ),
     (
-        Insn::Mov(QUAD, Place::Reg(RAX), Source::Imm(0xffff_ffff)),
+        Insn::Mov(QUAD, Place::Reg(Reg::RAX), Source::Imm(0xffff_ffff)),
         AT,
         &[0x48, 0xb8, 0xff, 0xff, 0xff, 0xff, 0x00, 0x00, 0x00, 0x00],
     ),
     (
-        Insn::Mov(LONG, Place::Reg(R9), Source::Imm(0xffff_ffff)),
+        Insn::Mov(LONG, Place::Reg(Reg::R9), Source::Imm(0xffff_ffff)),
         AT,
         &[0x41, 0xb9, 0xff, 0xff, 0xff, 0xff],
     ),
@@ -411,32 +386,51 @@ const CASES: &[(Insn, u64, &[u8])] = &[
         &[0x41, 0x83, 0x7d, 0x00, 0xff],
     ),
     (
-        Insn::Mov(QUAD, Place::Reg(RAX), Source::Imm(0x7fff_ffff_ffff_ffff)),
+        Insn::Mov(
+            QUAD,
+            Place::Reg(Reg::RAX),
+            Source::Imm(0x7fff_ffff_ffff_ffff),
+        ),
         AT,
         &[0x48, 0xb8, 0xff, 0xff, 0xff, 0xff, 0xff, 0xff, 0xff, 0x7f],
     ),
     (
-        Insn::Mov(QUAD, Place::Reg(RAX), Source::Imm(i64::MIN)),
+        Insn::Mov(QUAD, Place::Reg(Reg::RAX), Source::Imm(i64::MIN)),
         AT,
         &[0x48, 0xb8, 0x00, 0x00, 0x00, 0x00, 0x00, 0x00, 0x00, 0x80],
     ),
     (
-        Insn::Alu(AluOp::Xor, LONG, Place::Reg(RAX), Source::Imm(0xffff_ff80)),
+        Insn::Alu(
+            AluOp::Xor,
+            LONG,
+            Place::Reg(Reg::RAX),
+            Source::Imm(0xffff_ff80),
+        ),
         AT,
         &[0x83, 0xf0, 0x80],
     ),
     (
-        Insn::Alu(AluOp::Xor, LONG, Place::Reg(RAX), Source::Imm(0xffff_ff7f)),
+        Insn::Alu(
+            AluOp::Xor,
+            LONG,
+            Place::Reg(Reg::RAX),
+            Source::Imm(0xffff_ff7f),
+        ),
         AT,
         &[0x81, 0xf0, 0x7f, 0xff, 0xff, 0xff],
     ),
     (
-        Insn::Alu(AluOp::Xor, LONG, Place::Reg(RAX), Source::Imm(0xffff_ffff)),
+        Insn::Alu(
+            AluOp::Xor,
+            LONG,
+            Place::Reg(Reg::RAX),
+            Source::Imm(0xffff_ffff),
+        ),
         AT,
         &[0x83, 0xf0, 0xff],
     ),
     (
-        Insn::Mov(QUAD, Place::Reg(R10), Source::Mem(ABSOLUTE)),
+        Insn::Mov(QUAD, Place::Reg(Reg::R10), Source::Mem(ABSOLUTE)),
         AT,
         &[0x4c, 0x8b, 0x14, 0x25, 0x00, 0x00, 0x00, 0x00],
     ),
@@ -446,7 +440,7 @@ const CASES: &[(Insn, u64, &[u8])] = &[
         &[0xf6, 0x04, 0x25, 0x00, 0x00, 0x00, 0x00, 0xff],
     ),
     (
-        Insn::Mov(QUAD, Place::Reg(R10), Source::Mem(GS_ABSOLUTE_LESS_1)),
+        Insn::Mov(QUAD, Place::Reg(Reg::R10), Source::Mem(GS_ABSOLUTE_LESS_1)),
         AT,
         &[0x65, 0x4c, 0x8b, 0x14, 0x25, 0xff, 0xff, 0xff, 0xff],
     ),
@@ -456,7 +450,7 @@ const CASES: &[(Insn, u64, &[u8])] = &[
         &[0x65, 0xf6, 0x04, 0x25, 0xff, 0xff, 0xff, 0xff, 0xff],
     ),
     (
-        Insn::Mov(QUAD, Place::Reg(R10), Source::Mem(RIP)),
+        Insn::Mov(QUAD, Place::Reg(Reg::R10), Source::Mem(RIP)),
         AT,
         &[0x4c, 0x8b, 0x15, 0x00, 0x00, 0x00, 0x00],
     ),
@@ -466,7 +460,7 @@ const CASES: &[(Insn, u64, &[u8])] = &[
         &[0xf6, 0x05, 0x00, 0x00, 0x00, 0x00, 0xff],
     ),
     (
-        Insn::Mov(QUAD, Place::Reg(R10), Source::Mem(GS_RIP_LESS_10)),
+        Insn::Mov(QUAD, Place::Reg(Reg::R10), Source::Mem(GS_RIP_LESS_10)),
         AT,
         &[0x65, 0x4c, 0x8b, 0x15, 0xf0, 0xff, 0xff, 0xff],
     ),
@@ -476,7 +470,7 @@ const CASES: &[(Insn, u64, &[u8])] = &[
         &[0x65, 0xf6, 0x05, 0xf0, 0xff, 0xff, 0xff, 0xff],
     ),
     (
-        Insn::Mov(QUAD, Place::Reg(R10), Source::Mem(AT_RSP)),
+        Insn::Mov(QUAD, Place::Reg(Reg::R10), Source::Mem(AT_RSP)),
         AT,
         &[0x4c, 0x8b, 0x14, 0x24],
     ),
@@ -486,7 +480,7 @@ const CASES: &[(Insn, u64, &[u8])] = &[
         &[0xf6, 0x04, 0x24, 0xff],
     ),
     (
-        Insn::Mov(QUAD, Place::Reg(R10), Source::Mem(AT_RBP)),
+        Insn::Mov(QUAD, Place::Reg(Reg::R10), Source::Mem(AT_RBP)),
         AT,
         &[0x4c, 0x8b, 0x55, 0x00],
     ),
@@ -496,7 +490,7 @@ const CASES: &[(Insn, u64, &[u8])] = &[
         &[0xf6, 0x45, 0x00, 0xff],
     ),
     (
-        Insn::Mov(QUAD, Place::Reg(R10), Source::Mem(R12_PLUS_7F)),
+        Insn::Mov(QUAD, Place::Reg(Reg::R10), Source::Mem(R12_PLUS_7F)),
         AT,
         &[0x4d, 0x8b, 0x54, 0x24, 0x7f],
     ),
@@ -506,7 +500,7 @@ const CASES: &[(Insn, u64, &[u8])] = &[
         &[0x41, 0xf6, 0x44, 0x24, 0x7f, 0xff],
     ),
     (
-        Insn::Mov(QUAD, Place::Reg(R10), Source::Mem(R13_PLUS_80)),
+        Insn::Mov(QUAD, Place::Reg(Reg::R10), Source::Mem(R13_PLUS_80)),
         AT,
         &[0x4d, 0x8b, 0x95, 0x80, 0x00, 0x00, 0x00],
     ),
@@ -516,7 +510,7 @@ const CASES: &[(Insn, u64, &[u8])] = &[
         &[0x41, 0xf6, 0x85, 0x80, 0x00, 0x00, 0x00, 0xff],
     ),
     (
-        Insn::Mov(QUAD, Place::Reg(R10), Source::Mem(RAX_RCX_LESS_80)),
+        Insn::Mov(QUAD, Place::Reg(Reg::R10), Source::Mem(RAX_RCX_LESS_80)),
         AT,
         &[0x4c, 0x8b, 0x54, 0x08, 0x80],
     ),
@@ -526,7 +520,7 @@ const CASES: &[(Insn, u64, &[u8])] = &[
         &[0xf6, 0x44, 0x08, 0x80, 0xff],
     ),
     (
-        Insn::Mov(QUAD, Place::Reg(R10), Source::Mem(RBP_R9_8)),
+        Insn::Mov(QUAD, Place::Reg(Reg::R10), Source::Mem(RBP_R9_8)),
         AT,
         &[0x4e, 0x8b, 0x54, 0xcd, 0x00],
     ),
@@ -536,7 +530,7 @@ const CASES: &[(Insn, u64, &[u8])] = &[
         &[0x42, 0xf6, 0x44, 0xcd, 0x00, 0xff],
     ),
     (
-        Insn::Mov(QUAD, Place::Reg(R10), Source::Mem(ABSOLUTE_RCX)),
+        Insn::Mov(QUAD, Place::Reg(Reg::R10), Source::Mem(ABSOLUTE_RCX)),
         AT,
         &[0x4c, 0x8b, 0x14, 0x0d, 0x00, 0x00, 0x00, 0x00],
     ),
@@ -546,7 +540,11 @@ const CASES: &[(Insn, u64, &[u8])] = &[
         &[0xf6, 0x04, 0x0d, 0x00, 0x00, 0x00, 0x00, 0xff],
     ),
     (
-        Insn::Mov(QUAD, Place::Reg(R10), Source::Mem(ABSOLUTE_R12_4_PLUS_8)),
+        Insn::Mov(
+            QUAD,
+            Place::Reg(Reg::R10),
+            Source::Mem(ABSOLUTE_R12_4_PLUS_8),
+        ),
         AT,
         &[0x4e, 0x8b, 0x14, 0xa5, 0x08, 0x00, 0x00, 0x00],
     ),
@@ -556,7 +554,7 @@ const CASES: &[(Insn, u64, &[u8])] = &[
         &[0x42, 0xf6, 0x04, 0xa5, 0x08, 0x00, 0x00, 0x00, 0xff],
     ),
     (
-        Insn::Mov(QUAD, Place::Reg(R10), Source::Mem(RSP_RBP_2_LESS_81)),
+        Insn::Mov(QUAD, Place::Reg(Reg::R10), Source::Mem(RSP_RBP_2_LESS_81)),
         AT,
         &[0x4c, 0x8b, 0x94, 0x6c, 0x7f, 0xff, 0xff, 0xff],
     ),
@@ -568,7 +566,7 @@ const CASES: &[(Insn, u64, &[u8])] = &[
     (
         Insn::Mov(
             QUAD,
-            Place::Reg(R10),
+            Place::Reg(Reg::R10),
             Source::Mem(GS_R15_R15_8_PLUS_7FFFFFFF),
         ),
         AT,
@@ -584,7 +582,7 @@ const CASES: &[(Insn, u64, &[u8])] = &[
         &[0x65, 0x43, 0xf6, 0x84, 0xff, 0xff, 0xff, 0xff, 0x7f, 0xff],
     ),
     (
-        Insn::Mov(QUAD, Place::Reg(R10), Source::Mem(R13_RAX)),
+        Insn::Mov(QUAD, Place::Reg(Reg::R10), Source::Mem(R13_RAX)),
         AT,
         &[0x4d, 0x8b, 0x54, 0x05, 0x00],
     ),
@@ -594,33 +592,37 @@ const CASES: &[(Insn, u64, &[u8])] = &[
         &[0x41, 0xf6, 0x44, 0x05, 0x00, 0xff],
     ),
     (
-        Insn::Test(BYTE, Place::Reg(RAX), Source::Imm(3)),
+        Insn::Test(BYTE, Place::Reg(Reg::RAX), Source::Imm(3)),
         AT,
         &[0xf6, 0xc0, 0x03],
     ),
     (
-        Insn::Test(BYTE, Place::Reg(RBX), Source::Imm(3)),
+        Insn::Test(BYTE, Place::Reg(Reg::RBX), Source::Imm(3)),
         AT,
         &[0xf6, 0xc3, 0x03],
     ),
     (
-        Insn::Test(BYTE, Place::Reg(RSP), Source::Imm(3)),
+        Insn::Test(BYTE, Place::Reg(Reg::RSP), Source::Imm(3)),
         AT,
         &[0x40, 0xf6, 0xc4, 0x03],
     ),
     (
-        Insn::Test(BYTE, Place::Reg(RDI), Source::Imm(3)),
+        Insn::Test(BYTE, Place::Reg(Reg::RDI), Source::Imm(3)),
         AT,
         &[0x40, 0xf6, 0xc7, 0x03],
     ),
     (
-        Insn::Test(BYTE, Place::Reg(R8), Source::Imm(3)),
+        Insn::Test(BYTE, Place::Reg(Reg::R8), Source::Imm(3)),
         AT,
         &[0x41, 0xf6, 0xc0, 0x03],
     ),
-    (Insn::Xchg(LONG, Place::Reg(RAX), RAX), AT, &[0x87, 0xc0]),
     (
-        Insn::Xchg(QUAD, Place::Reg(RCX), RAX),
+        Insn::Xchg(LONG, Place::Reg(Reg::RAX), Reg::RAX),
+        AT,
+        &[0x87, 0xc0],
+    ),
+    (
+        Insn::Xchg(QUAD, Place::Reg(Reg::RCX), Reg::RAX),
         AT,
         &[0x48, 0x87, 0xc1],
     ),
@@ -629,9 +631,9 @@ const CASES: &[(Insn, u64, &[u8])] = &[
         AT,
         &[0x8f, 0x44, 0x24, 0x08],
     ),
-    (Insn::Pop(Place::Reg(R12)), AT, &[0x41, 0x5c]),
+    (Insn::Pop(Place::Reg(Reg::R12)), AT, &[0x41, 0x5c]),
     (
-        Insn::Lea(LONG, R8, RIP_PLUS_4),
+        Insn::Lea(LONG, Reg::R8, RIP_PLUS_4),
         AT,
         &[0x44, 0x8d, 0x05, 0x04, 0x00, 0x00, 0x00],
     ),
@@ -657,7 +659,7 @@ const CASES: &[(Insn, u64, &[u8])] = &[
         &[0x0f, 0x84, 0xff, 0xff, 0xff, 0x7f],
     ),
     (
-        Insn::Mov(LONG, Place::Mem(R8_PLUS_800), Source::Reg(RCX)),
+        Insn::Mov(LONG, Place::Mem(R8_PLUS_800), Source::Reg(Reg::RCX)),
         0,
         &[0x41, 0x89, 0x88, 0x00, 0x08, 0x00, 0x00],
     ),
@@ -667,7 +669,7 @@ const CASES: &[(Insn, u64, &[u8])] = &[
         &[0xff, 0xb4, 0x24, 0x54, 0x41, 0x5d, 0x56],
     ),
     (
-        Insn::Bit(BitOp::Reset, QUAD, Place::Reg(RSP), 0x47),
+        Insn::Bit(BitOp::Reset, QUAD, Place::Reg(Reg::RSP), 0x47),
         0x9e37_c6c7_5799_12c7,
         &[0x48, 0x0f, 0xba, 0xf4, 0x47],
     ),
@@ -676,13 +678,13 @@ const CASES: &[(Insn, u64, &[u8])] = &[
             AluOp::Or,
             QUAD,
             Place::Mem(RDI_PLUS_50BB692),
-            Source::Reg(R15),
+            Source::Reg(Reg::R15),
         ),
         0xffff_ffff_8100_0000,
         &[0x4c, 0x09, 0xbf, 0x92, 0xb6, 0x0b, 0x05],
     ),
     (
-        Insn::Alu(AluOp::Xor, QUAD, Place::Reg(R14), Source::Imm(-0x80)),
+        Insn::Alu(AluOp::Xor, QUAD, Place::Reg(Reg::R14), Source::Imm(-0x80)),
         0,
         &[0x49, 0x83, 0xf6, 0x80],
     ),
@@ -690,14 +692,14 @@ const CASES: &[(Insn, u64, &[u8])] = &[
         Insn::Alu(
             AluOp::Sub,
             QUAD,
-            Place::Reg(R9),
+            Place::Reg(Reg::R9),
             Source::Mem(GS_RSI_LESS_5E8C2C6E),
         ),
         0xffff_ffff_8100_0000,
         &[0x65, 0x4c, 0x2b, 0x8e, 0x92, 0xd3, 0x73, 0xa1],
     ),
     (
-        Insn::Xchg(QUAD, Place::Mem(GS_RDI_RSI_2_LESS_1001), R15),
+        Insn::Xchg(QUAD, Place::Mem(GS_RDI_RSI_2_LESS_1001), Reg::R15),
         AT,
         &[0x65, 0x4c, 0x87, 0xbc, 0x77, 0xff, 0xef, 0xff, 0xff],
     ),
@@ -714,12 +716,12 @@ const CASES: &[(Insn, u64, &[u8])] = &[
         ],
     ),
     (
-        Insn::Mov(LONG, Place::Reg(RBP), Source::Reg(RDI)),
+        Insn::Mov(LONG, Place::Reg(Reg::RBP), Source::Reg(Reg::RDI)),
         0xf9ab_53e0_fca3_da41,
         &[0x89, 0xfd],
     ),
     (
-        Insn::Lea(LONG, R15, RSI_R14_8_PLUS_7FFFFFFF),
+        Insn::Lea(LONG, Reg::R15, RSI_R14_8_PLUS_7FFFFFFF),
         AT,
         &[0x46, 0x8d, 0xbc, 0xf6, 0xff, 0xff, 0xff, 0x7f],
     ),
@@ -729,7 +731,7 @@ const CASES: &[(Insn, u64, &[u8])] = &[
         &[0xc7, 0x05, 0x00, 0x00, 0x00, 0x00, 0x00, 0x00, 0x00, 0x80],
     ),
     (
-        Insn::Bit(BitOp::Test, QUAD, Place::Reg(R11), 0x79),
+        Insn::Bit(BitOp::Test, QUAD, Place::Reg(Reg::R11), 0x79),
         0xffff_ffff_8100_0000,
         &[0x49, 0x0f, 0xba, 0xe3, 0x79],
     ),
@@ -744,7 +746,7 @@ const CASES: &[(Insn, u64, &[u8])] = &[
         &[0x43, 0xff, 0x34, 0x11],
     ),
     (
-        Insn::Test(QUAD, Place::Reg(R15), Source::Reg(R14)),
+        Insn::Test(QUAD, Place::Reg(Reg::R15), Source::Reg(Reg::R14)),
         0xffff_ffff_8100_0000,
         &[0x4d, 0x85, 0xf7],
     ),

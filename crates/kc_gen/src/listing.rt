@@ -5,38 +5,6 @@ use crate::line::Line::{self, At, Code};
 use kc_insn::{AluOp, Base, Insn, Mem, Place, Reg, Source};
 use kc_words::Width;
 
-const RAX: Reg = Reg(0);
-
-const RCX: Reg = Reg(1);
-
-const RDX: Reg = Reg(2);
-
-const RBX: Reg = Reg(3);
-
-const RSP: Reg = Reg(4);
-
-const RBP: Reg = Reg(5);
-
-const RSI: Reg = Reg(6);
-
-const RDI: Reg = Reg(7);
-
-const R8: Reg = Reg(8);
-
-const R9: Reg = Reg(9);
-
-const R10: Reg = Reg(10);
-
-const R11: Reg = Reg(11);
-
-const R12: Reg = Reg(12);
-
-const R13: Reg = Reg(13);
-
-const R14: Reg = Reg(14);
-
-const R15: Reg = Reg(15);
-
 const SYSCALL: u64 = 0xffff_ffff_8100_0000;
 
 const INTERRUPT: u64 = 0xffff_ffff_8100_0100;
@@ -118,7 +86,7 @@ const KERNEL_STACK: Mem = Mem {
 // [rsp+0x8]
 const RSP_8: Mem = Mem {
     gs: false,
-    base: Base::Reg(RSP),
+    base: Base::Reg(Reg::RSP),
     index: None,
     disp: 0x8,
 };
@@ -126,7 +94,7 @@ const RSP_8: Mem = Mem {
 // [rsp+0x10]
 const RSP_10: Mem = Mem {
     gs: false,
-    base: Base::Reg(RSP),
+    base: Base::Reg(Reg::RSP),
     index: None,
     disp: 0x10,
 };
@@ -134,7 +102,7 @@ const RSP_10: Mem = Mem {
 // [rsp+0x20]
 const RSP_20: Mem = Mem {
     gs: false,
-    base: Base::Reg(RSP),
+    base: Base::Reg(Reg::RSP),
     index: None,
     disp: 0x20,
 };
@@ -142,7 +110,7 @@ const RSP_20: Mem = Mem {
 // [rax+0x28]
 const RAX_28: Mem = Mem {
     gs: false,
-    base: Base::Reg(RAX),
+    base: Base::Reg(Reg::RAX),
     index: None,
     disp: 0x28,
 };
@@ -150,7 +118,7 @@ const RAX_28: Mem = Mem {
 // [rax+0x20]
 const RAX_20: Mem = Mem {
     gs: false,
-    base: Base::Reg(RAX),
+    base: Base::Reg(Reg::RAX),
     index: None,
     disp: 0x20,
 };
@@ -158,7 +126,7 @@ const RAX_20: Mem = Mem {
 // [rax+0x18]
 const RAX_18: Mem = Mem {
     gs: false,
-    base: Base::Reg(RAX),
+    base: Base::Reg(Reg::RAX),
     index: None,
     disp: 0x18,
 };
@@ -166,7 +134,7 @@ const RAX_18: Mem = Mem {
 // [rax+0x10]
 const RAX_10: Mem = Mem {
     gs: false,
-    base: Base::Reg(RAX),
+    base: Base::Reg(Reg::RAX),
     index: None,
     disp: 0x10,
 };
@@ -174,7 +142,7 @@ const RAX_10: Mem = Mem {
 // [rax+0x8]
 const RAX_8: Mem = Mem {
     gs: false,
-    base: Base::Reg(RAX),
+    base: Base::Reg(Reg::RAX),
     index: None,
     disp: 0x8,
 };
@@ -182,7 +150,7 @@ const RAX_8: Mem = Mem {
 // [rax]
 const RAX_0: Mem = Mem {
     gs: false,
-    base: Base::Reg(RAX),
+    base: Base::Reg(Reg::RAX),
     index: None,
     disp: 0x0,
 };
@@ -190,98 +158,103 @@ const RAX_0: Mem = Mem {
 // The first register that is saved.
 const PUSH_RAX: &[Line] = &[
     // push rax
-    Code(Insn::Push(Source::Reg(RAX))),
+    Code(Insn::Push(Source::Reg(Reg::RAX))),
 ];
 
 // The other registers that are saved: all but RSP.
 const PUSH_OTHERS: &[Line] = &[
     // push rcx
-    Code(Insn::Push(Source::Reg(RCX))),
+    Code(Insn::Push(Source::Reg(Reg::RCX))),
     // push rdx
-    Code(Insn::Push(Source::Reg(RDX))),
+    Code(Insn::Push(Source::Reg(Reg::RDX))),
     // push rbx
-    Code(Insn::Push(Source::Reg(RBX))),
+    Code(Insn::Push(Source::Reg(Reg::RBX))),
     // push rbp
-    Code(Insn::Push(Source::Reg(RBP))),
+    Code(Insn::Push(Source::Reg(Reg::RBP))),
     // push rsi
-    Code(Insn::Push(Source::Reg(RSI))),
+    Code(Insn::Push(Source::Reg(Reg::RSI))),
     // push rdi
-    Code(Insn::Push(Source::Reg(RDI))),
+    Code(Insn::Push(Source::Reg(Reg::RDI))),
     // push r8
-    Code(Insn::Push(Source::Reg(R8))),
+    Code(Insn::Push(Source::Reg(Reg::R8))),
     // push r9
-    Code(Insn::Push(Source::Reg(R9))),
+    Code(Insn::Push(Source::Reg(Reg::R9))),
     // push r10
-    Code(Insn::Push(Source::Reg(R10))),
+    Code(Insn::Push(Source::Reg(Reg::R10))),
     // push r11
-    Code(Insn::Push(Source::Reg(R11))),
+    Code(Insn::Push(Source::Reg(Reg::R11))),
     // push r12
-    Code(Insn::Push(Source::Reg(R12))),
+    Code(Insn::Push(Source::Reg(Reg::R12))),
     // push r13
-    Code(Insn::Push(Source::Reg(R13))),
+    Code(Insn::Push(Source::Reg(Reg::R13))),
     // push r14
-    Code(Insn::Push(Source::Reg(R14))),
+    Code(Insn::Push(Source::Reg(Reg::R14))),
     // push r15
-    Code(Insn::Push(Source::Reg(R15))),
+    Code(Insn::Push(Source::Reg(Reg::R15))),
 ];
 
 // Pops what PUSH_OTHERS and PUSH_RAX pushed.
 const RESTORE: &[Line] = &[
     // pop r15
-    Code(Insn::Pop(Place::Reg(R15))),
+    Code(Insn::Pop(Place::Reg(Reg::R15))),
     // pop r14
-    Code(Insn::Pop(Place::Reg(R14))),
+    Code(Insn::Pop(Place::Reg(Reg::R14))),
     // pop r13
-    Code(Insn::Pop(Place::Reg(R13))),
+    Code(Insn::Pop(Place::Reg(Reg::R13))),
     // pop r12
-    Code(Insn::Pop(Place::Reg(R12))),
+    Code(Insn::Pop(Place::Reg(Reg::R12))),
     // pop r11
-    Code(Insn::Pop(Place::Reg(R11))),
+    Code(Insn::Pop(Place::Reg(Reg::R11))),
     // pop r10
-    Code(Insn::Pop(Place::Reg(R10))),
+    Code(Insn::Pop(Place::Reg(Reg::R10))),
     // pop r9
-    Code(Insn::Pop(Place::Reg(R9))),
+    Code(Insn::Pop(Place::Reg(Reg::R9))),
     // pop r8
-    Code(Insn::Pop(Place::Reg(R8))),
+    Code(Insn::Pop(Place::Reg(Reg::R8))),
     // pop rdi
-    Code(Insn::Pop(Place::Reg(RDI))),
+    Code(Insn::Pop(Place::Reg(Reg::RDI))),
     // pop rsi
-    Code(Insn::Pop(Place::Reg(RSI))),
+    Code(Insn::Pop(Place::Reg(Reg::RSI))),
     // pop rbp
-    Code(Insn::Pop(Place::Reg(RBP))),
+    Code(Insn::Pop(Place::Reg(Reg::RBP))),
     // pop rbx
-    Code(Insn::Pop(Place::Reg(RBX))),
+    Code(Insn::Pop(Place::Reg(Reg::RBX))),
     // pop rdx
-    Code(Insn::Pop(Place::Reg(RDX))),
+    Code(Insn::Pop(Place::Reg(Reg::RDX))),
     // pop rcx
-    Code(Insn::Pop(Place::Reg(RCX))),
+    Code(Insn::Pop(Place::Reg(Reg::RCX))),
     // pop rax
-    Code(Insn::Pop(Place::Reg(RAX))),
+    Code(Insn::Pop(Place::Reg(Reg::RAX))),
 ];
 
 // Clears bit 12 of CR3: the kernel's map.
 const KERNEL_CR3: &[Line] = &[
     // mov rax, cr3
-    Code(Insn::ReadCr3(RAX)),
+    Code(Insn::ReadCr3(Reg::RAX)),
     // and rax, -0x1001
     Code(Insn::Alu(
         AluOp::And,
         Width::Quad,
-        Place::Reg(RAX),
+        Place::Reg(Reg::RAX),
         Source::Imm(-0x1001),
     )),
     // mov cr3, rax
-    Code(Insn::WriteCr3(RAX)),
+    Code(Insn::WriteCr3(Reg::RAX)),
 ];
 
 // Sets bit 12 of CR3: the user's map.
 const USER_CR3: &[Line] = &[
     // mov rax, cr3
-    Code(Insn::ReadCr3(RAX)),
+    Code(Insn::ReadCr3(Reg::RAX)),
     // or rax, 0x1000
-    Code(Insn::Alu(AluOp::Or, Width::Quad, Place::Reg(RAX), Source::Imm(0x1000))),
+    Code(Insn::Alu(
+        AluOp::Or,
+        Width::Quad,
+        Place::Reg(Reg::RAX),
+        Source::Imm(0x1000),
+    )),
     // mov cr3, rax
-    Code(Insn::WriteCr3(RAX)),
+    Code(Insn::WriteCr3(Reg::RAX)),
 ];
 
 // To the user, with the user's GS base.
@@ -301,7 +274,12 @@ const RETURN: &[Line] = &[
 // Takes the error code away.
 const DROP_ERROR_CODE: &[Line] = &[
     // add rsp, 0x8
-    Code(Insn::Alu(AluOp::Add, Width::Quad, Place::Reg(RSP), Source::Imm(8))),
+    Code(Insn::Alu(
+        AluOp::Add,
+        Width::Quad,
+        Place::Reg(Reg::RSP),
+        Source::Imm(8),
+    )),
 ];
 
 // From SYSCALL to SYSRETQ: a frame as an interrupt's on the kernel's stack, and the handler.
@@ -310,48 +288,53 @@ const SYSCALL_ENTRY: &[Line] = &[
     // swapgs
     Code(Insn::Swapgs),
     // mov gs:[0x800], rsp
-    Code(Insn::Mov(Width::Quad, Place::Mem(SCRATCH), Source::Reg(RSP))),
+    Code(Insn::Mov(Width::Quad, Place::Mem(SCRATCH), Source::Reg(Reg::RSP))),
     // mov rsp, cr3
-    Code(Insn::ReadCr3(RSP)),
+    Code(Insn::ReadCr3(Reg::RSP)),
     // and rsp, -0x1001
     Code(Insn::Alu(
         AluOp::And,
         Width::Quad,
-        Place::Reg(RSP),
+        Place::Reg(Reg::RSP),
         Source::Imm(-0x1001),
     )),
     // mov cr3, rsp
-    Code(Insn::WriteCr3(RSP)),
+    Code(Insn::WriteCr3(Reg::RSP)),
     // mov rsp, gs:[0x808]
-    Code(Insn::Mov(Width::Quad, Place::Reg(RSP), Source::Mem(KERNEL_STACK))),
+    Code(Insn::Mov(Width::Quad, Place::Reg(Reg::RSP), Source::Mem(KERNEL_STACK))),
     // push 0x2b
     Code(Insn::Push(Source::Imm(0x2b))),
     // push gs:[0x800]
     Code(Insn::Push(Source::Mem(SCRATCH))),
     // push r11
-    Code(Insn::Push(Source::Reg(R11))),
+    Code(Insn::Push(Source::Reg(Reg::R11))),
     // push 0x33
     Code(Insn::Push(Source::Imm(0x33))),
     // push rcx
-    Code(Insn::Push(Source::Reg(RCX))),
+    Code(Insn::Push(Source::Reg(Reg::RCX))),
     // call ON_SYSCALL
     Code(Insn::Call(ON_SYSCALL)),
     // pop rcx
-    Code(Insn::Pop(Place::Reg(RCX))),
+    Code(Insn::Pop(Place::Reg(Reg::RCX))),
     // pop rdx
-    Code(Insn::Pop(Place::Reg(RDX))),
+    Code(Insn::Pop(Place::Reg(Reg::RDX))),
     // pop r11
-    Code(Insn::Pop(Place::Reg(R11))),
+    Code(Insn::Pop(Place::Reg(Reg::R11))),
     // mov rdx, cr3
-    Code(Insn::ReadCr3(RDX)),
+    Code(Insn::ReadCr3(Reg::RDX)),
     // or rdx, 0x1000
-    Code(Insn::Alu(AluOp::Or, Width::Quad, Place::Reg(RDX), Source::Imm(0x1000))),
+    Code(Insn::Alu(
+        AluOp::Or,
+        Width::Quad,
+        Place::Reg(Reg::RDX),
+        Source::Imm(0x1000),
+    )),
     // pop rsp
-    Code(Insn::Pop(Place::Reg(RSP))),
+    Code(Insn::Pop(Place::Reg(Reg::RSP))),
     // mov cr3, rdx
-    Code(Insn::WriteCr3(RDX)),
+    Code(Insn::WriteCr3(Reg::RDX)),
     // mov edx, 0x0
-    Code(Insn::Mov(Width::Long, Place::Reg(RDX), Source::Imm(0))),
+    Code(Insn::Mov(Width::Long, Place::Reg(Reg::RDX), Source::Imm(0))),
     // swapgs
     Code(Insn::Swapgs),
     // sysretq
@@ -442,83 +425,83 @@ const NMI_ENTRY: &[Line] = &[At(NMI)];
 // EBX says whether the kernel's GS base had to be put in place.
 const DEBUG_TAKES_GS: &[Line] = &[
     // mov ecx, 0xc0000101
-    Code(Insn::Mov(Width::Long, Place::Reg(RCX), Source::Imm(GS_BASE))),
+    Code(Insn::Mov(Width::Long, Place::Reg(Reg::RCX), Source::Imm(GS_BASE))),
     // rdmsr
     Code(Insn::Rdmsr),
     // mov ebx, 0x0
-    Code(Insn::Mov(Width::Long, Place::Reg(RBX), Source::Imm(0))),
+    Code(Insn::Mov(Width::Long, Place::Reg(Reg::RBX), Source::Imm(0))),
     // test edx, edx
-    Code(Insn::Test(Width::Long, Place::Reg(RDX), Source::Reg(RDX))),
+    Code(Insn::Test(Width::Long, Place::Reg(Reg::RDX), Source::Reg(Reg::RDX))),
     // js DEBUG_HAS_GS
     Code(Insn::Jcc(8, DEBUG_HAS_GS)),
     // swapgs
     Code(Insn::Swapgs),
     // mov ebx, 0x1
-    Code(Insn::Mov(Width::Long, Place::Reg(RBX), Source::Imm(1))),
+    Code(Insn::Mov(Width::Long, Place::Reg(Reg::RBX), Source::Imm(1))),
     At(DEBUG_HAS_GS),
 ];
 
 // EBX says whether the kernel's GS base had to be put in place.
 const NMI_TAKES_GS: &[Line] = &[
     // mov ecx, 0xc0000101
-    Code(Insn::Mov(Width::Long, Place::Reg(RCX), Source::Imm(GS_BASE))),
+    Code(Insn::Mov(Width::Long, Place::Reg(Reg::RCX), Source::Imm(GS_BASE))),
     // rdmsr
     Code(Insn::Rdmsr),
     // mov ebx, 0x0
-    Code(Insn::Mov(Width::Long, Place::Reg(RBX), Source::Imm(0))),
+    Code(Insn::Mov(Width::Long, Place::Reg(Reg::RBX), Source::Imm(0))),
     // test edx, edx
-    Code(Insn::Test(Width::Long, Place::Reg(RDX), Source::Reg(RDX))),
+    Code(Insn::Test(Width::Long, Place::Reg(Reg::RDX), Source::Reg(Reg::RDX))),
     // js NMI_HAS_GS
     Code(Insn::Jcc(8, NMI_HAS_GS)),
     // swapgs
     Code(Insn::Swapgs),
     // mov ebx, 0x1
-    Code(Insn::Mov(Width::Long, Place::Reg(RBX), Source::Imm(1))),
+    Code(Insn::Mov(Width::Long, Place::Reg(Reg::RBX), Source::Imm(1))),
     At(NMI_HAS_GS),
 ];
 
 // EBX says whether the kernel's GS base had to be put in place.
 const MOVED_NMI_TAKES_GS: &[Line] = &[
     // mov ecx, 0xc0000101
-    Code(Insn::Mov(Width::Long, Place::Reg(RCX), Source::Imm(GS_BASE))),
+    Code(Insn::Mov(Width::Long, Place::Reg(Reg::RCX), Source::Imm(GS_BASE))),
     // rdmsr
     Code(Insn::Rdmsr),
     // mov ebx, 0x0
-    Code(Insn::Mov(Width::Long, Place::Reg(RBX), Source::Imm(0))),
+    Code(Insn::Mov(Width::Long, Place::Reg(Reg::RBX), Source::Imm(0))),
     // test edx, edx
-    Code(Insn::Test(Width::Long, Place::Reg(RDX), Source::Reg(RDX))),
+    Code(Insn::Test(Width::Long, Place::Reg(Reg::RDX), Source::Reg(Reg::RDX))),
     // js MOVED_NMI_HAS_GS
     Code(Insn::Jcc(8, MOVED_NMI_HAS_GS)),
     // swapgs
     Code(Insn::Swapgs),
     // mov ebx, 0x1
-    Code(Insn::Mov(Width::Long, Place::Reg(RBX), Source::Imm(1))),
+    Code(Insn::Mov(Width::Long, Place::Reg(Reg::RBX), Source::Imm(1))),
     At(MOVED_NMI_HAS_GS),
 ];
 
 // R14 keeps CR3.
 const TAKE_KERNEL_CR3: &[Line] = &[
     // mov r14, cr3
-    Code(Insn::ReadCr3(R14)),
+    Code(Insn::ReadCr3(Reg::R14)),
     // mov rax, r14
-    Code(Insn::Mov(Width::Quad, Place::Reg(RAX), Source::Reg(R14))),
+    Code(Insn::Mov(Width::Quad, Place::Reg(Reg::RAX), Source::Reg(Reg::R14))),
     // and rax, -0x1001
     Code(Insn::Alu(
         AluOp::And,
         Width::Quad,
-        Place::Reg(RAX),
+        Place::Reg(Reg::RAX),
         Source::Imm(-0x1001),
     )),
     // mov cr3, rax
-    Code(Insn::WriteCr3(RAX)),
+    Code(Insn::WriteCr3(Reg::RAX)),
 ];
 
 // CR3 as it was, and the GS base where it was exchanged.
 const DEBUG_GIVES_BACK: &[Line] = &[
     // mov cr3, r14
-    Code(Insn::WriteCr3(R14)),
+    Code(Insn::WriteCr3(Reg::R14)),
     // test ebx, ebx
-    Code(Insn::Test(Width::Long, Place::Reg(RBX), Source::Reg(RBX))),
+    Code(Insn::Test(Width::Long, Place::Reg(Reg::RBX), Source::Reg(Reg::RBX))),
     // jz DEBUG_KEEPS_GS
     Code(Insn::Jcc(4, DEBUG_KEEPS_GS)),
     // swapgs
@@ -529,9 +512,9 @@ const DEBUG_GIVES_BACK: &[Line] = &[
 // CR3 as it was, and the GS base where it was exchanged.
 const NMI_GIVES_BACK: &[Line] = &[
     // mov cr3, r14
-    Code(Insn::WriteCr3(R14)),
+    Code(Insn::WriteCr3(Reg::R14)),
     // test ebx, ebx
-    Code(Insn::Test(Width::Long, Place::Reg(RBX), Source::Reg(RBX))),
+    Code(Insn::Test(Width::Long, Place::Reg(Reg::RBX), Source::Reg(Reg::RBX))),
     // jz NMI_KEEPS_GS
     Code(Insn::Jcc(4, NMI_KEEPS_GS)),
     // swapgs
@@ -542,9 +525,9 @@ const NMI_GIVES_BACK: &[Line] = &[
 // CR3 as it was, and the GS base where it was exchanged.
 const MOVED_NMI_GIVES_BACK: &[Line] = &[
     // mov cr3, r14
-    Code(Insn::WriteCr3(R14)),
+    Code(Insn::WriteCr3(Reg::R14)),
     // test ebx, ebx
-    Code(Insn::Test(Width::Long, Place::Reg(RBX), Source::Reg(RBX))),
+    Code(Insn::Test(Width::Long, Place::Reg(Reg::RBX), Source::Reg(Reg::RBX))),
     // jz MOVED_NMI_KEEPS_GS
     Code(Insn::Jcc(4, MOVED_NMI_KEEPS_GS)),
     // swapgs
@@ -556,11 +539,11 @@ const MOVED_NMI_GIVES_BACK: &[Line] = &[
 const MACHINE_CHECK_TAKES_GS: &[Line] = &[
     At(MACHINE_CHECK_IN_KERNEL),
     // mov ecx, 0xc0000101
-    Code(Insn::Mov(Width::Long, Place::Reg(RCX), Source::Imm(GS_BASE))),
+    Code(Insn::Mov(Width::Long, Place::Reg(Reg::RCX), Source::Imm(GS_BASE))),
     // rdmsr
     Code(Insn::Rdmsr),
     // test edx, edx
-    Code(Insn::Test(Width::Long, Place::Reg(RDX), Source::Reg(RDX))),
+    Code(Insn::Test(Width::Long, Place::Reg(Reg::RDX), Source::Reg(Reg::RDX))),
     // js MACHINE_CHECK_HAS_GS
     Code(Insn::Jcc(8, MACHINE_CHECK_HAS_GS)),
     // swapgs
@@ -572,25 +555,25 @@ const MACHINE_CHECK_TAKES_GS: &[Line] = &[
 const MOVING_NMI_ENTRY: &[Line] = &[
     At(NMI),
     // push rax
-    Code(Insn::Push(Source::Reg(RAX))),
+    Code(Insn::Push(Source::Reg(Reg::RAX))),
     // test byte [rsp+0x10], 0x3
     Code(Insn::Test(Width::Byte, Place::Mem(RSP_10), Source::Imm(3))),
     // jnz NMI_MOVES
     Code(Insn::Jcc(5, NMI_MOVES)),
     // mov rax, [rsp+0x20]
-    Code(Insn::Mov(Width::Quad, Place::Reg(RAX), Source::Mem(RSP_20))),
+    Code(Insn::Mov(Width::Quad, Place::Reg(Reg::RAX), Source::Mem(RSP_20))),
     // and rax, -0x1000
     Code(Insn::Alu(
         AluOp::And,
         Width::Quad,
-        Place::Reg(RAX),
+        Place::Reg(Reg::RAX),
         Source::Imm(-0x1000),
     )),
     // cmp rax, 0xffffffff84009000
     Code(Insn::Alu(
         AluOp::Cmp,
         Width::Quad,
-        Place::Reg(RAX),
+        Place::Reg(Reg::RAX),
         Source::Imm(WORK_STACK),
     )),
     // jz NMI_RETURNS
@@ -599,21 +582,25 @@ const MOVING_NMI_ENTRY: &[Line] = &[
     Code(Insn::Alu(
         AluOp::Cmp,
         Width::Quad,
-        Place::Reg(RAX),
+        Place::Reg(Reg::RAX),
         Source::Imm(MACHINE_CHECK_STACK),
     )),
     // jnz NMI_MOVES
     Code(Insn::Jcc(5, NMI_MOVES)),
     At(NMI_RETURNS),
     // pop rax
-    Code(Insn::Pop(Place::Reg(RAX))),
+    Code(Insn::Pop(Place::Reg(Reg::RAX))),
     // iretq
     Code(Insn::Iretq),
     At(NMI_MOVES),
     // mov rax, rsp
-    Code(Insn::Mov(Width::Quad, Place::Reg(RAX), Source::Reg(RSP))),
+    Code(Insn::Mov(Width::Quad, Place::Reg(Reg::RAX), Source::Reg(Reg::RSP))),
     // mov rsp, 0xffffffff8400a000
-    Code(Insn::Mov(Width::Quad, Place::Reg(RSP), Source::Imm(WORK_STACK_TOP))),
+    Code(Insn::Mov(
+        Width::Quad,
+        Place::Reg(Reg::RSP),
+        Source::Imm(WORK_STACK_TOP),
+    )),
     // push [rax+0x28]
     Code(Insn::Push(Source::Mem(RAX_28))),
     // push [rax+0x20]

@@ -7,6 +7,41 @@ use kc_words::Width;
 #[derive(Clone, Copy, PartialEq, Eq, Debug)]
 pub struct Reg(pub u8);
 
+/// The registers by the names of the manual.
+impl Reg {
+    pub const RAX: Reg = Reg(0);
+
+    pub const RCX: Reg = Reg(1);
+
+    pub const RDX: Reg = Reg(2);
+
+    pub const RBX: Reg = Reg(3);
+
+    pub const RSP: Reg = Reg(4);
+
+    pub const RBP: Reg = Reg(5);
+
+    pub const RSI: Reg = Reg(6);
+
+    pub const RDI: Reg = Reg(7);
+
+    pub const R8: Reg = Reg(8);
+
+    pub const R9: Reg = Reg(9);
+
+    pub const R10: Reg = Reg(10);
+
+    pub const R11: Reg = Reg(11);
+
+    pub const R12: Reg = Reg(12);
+
+    pub const R13: Reg = Reg(13);
+
+    pub const R14: Reg = Reg(14);
+
+    pub const R15: Reg = Reg(15);
+}
+
 /// Where the address of a memory operand begins.
 #[derive(Clone, Copy, PartialEq, Eq, Debug)]
 pub enum Base {

@@ -3,17 +3,11 @@
 use crate::{AluOp, Base, BitOp, Insn, Mem, Place, Reg, Source};
 use kc_words::Width;
 
-const RAX: Reg = Reg(0);
-
-const RSP: Reg = Reg(4);
-
-const R15: Reg = Reg(15);
-
 const NO_REGISTER: Reg = Reg(16);
 
 const STACK: Mem = Mem {
     gs: false,
-    base: Base::Reg(RSP),
+    base: Base::Reg(Reg::RSP),
     index: None,
     disp: 8,
 };
@@ -28,36 +22,36 @@ const GS_WORD: Mem = Mem {
 const RIP_INDEXED: Mem = Mem {
     gs: false,
     base: Base::Rip,
-    index: Some((RAX, 1)),
+    index: Some((Reg::RAX, 1)),
     disp: 0,
 };
 
 const RSP_INDEX: Mem = Mem {
     gs: false,
     base: Base::Absent,
-    index: Some((RSP, 2)),
+    index: Some((Reg::RSP, 2)),
     disp: 0,
 };
 
 const SCALE_3: Mem = Mem {
     gs: false,
     base: Base::Absent,
-    index: Some((RAX, 3)),
+    index: Some((Reg::RAX, 3)),
     disp: 0,
 };
 
 const CASES: &[(Insn, bool)] = &[
     (Insn::Swapgs, true),
-    (Insn::ReadCr3(R15), true),
+    (Insn::ReadCr3(Reg::R15), true),
     (Insn::ReadCr3(NO_REGISTER), false),
     (
-        Insn::Mov(Width::Quad, Place::Reg(RAX), Source::Mem(GS_WORD)),
+        Insn::Mov(Width::Quad, Place::Reg(Reg::RAX), Source::Mem(GS_WORD)),
         true,
     ),
     (
         Insn::Mov(
             Width::Quad,
-            Place::Reg(RAX),
+            Place::Reg(Reg::RAX),
             Source::Imm(0x7fff_ffff_ffff_ffff),
         ),
         true,
@@ -67,24 +61,24 @@ const CASES: &[(Insn, bool)] = &[
         false,
     ),
     (
-        Insn::Mov(Width::Long, Place::Reg(RAX), Source::Imm(0xffff_ffff)),
+        Insn::Mov(Width::Long, Place::Reg(Reg::RAX), Source::Imm(0xffff_ffff)),
         true,
     ),
     (
-        Insn::Mov(Width::Long, Place::Reg(RAX), Source::Imm(-1)),
+        Insn::Mov(Width::Long, Place::Reg(Reg::RAX), Source::Imm(-1)),
         false,
     ),
     (
-        Insn::Mov(Width::Byte, Place::Reg(RAX), Source::Reg(RAX)),
+        Insn::Mov(Width::Byte, Place::Reg(Reg::RAX), Source::Reg(Reg::RAX)),
         false,
     ),
     (
         Insn::Mov(Width::Quad, Place::Mem(STACK), Source::Mem(STACK)),
         false,
     ),
-    (Insn::Lea(Width::Quad, RSP, STACK), true),
-    (Insn::Lea(Width::Quad, RSP, GS_WORD), false),
-    (Insn::Xchg(Width::Long, Place::Mem(STACK), R15), true),
+    (Insn::Lea(Width::Quad, Reg::RSP, STACK), true),
+    (Insn::Lea(Width::Quad, Reg::RSP, GS_WORD), false),
+    (Insn::Xchg(Width::Long, Place::Mem(STACK), Reg::R15), true),
     (Insn::Push(Source::Imm(-0x8000_0000)), true),
     (Insn::Push(Source::Imm(0x8000_0000)), false),
     (Insn::Pop(Place::Mem(RIP_INDEXED)), false),
@@ -94,7 +88,7 @@ const CASES: &[(Insn, bool)] = &[
         Insn::Alu(
             AluOp::And,
             Width::Quad,
-            Place::Reg(RAX),
+            Place::Reg(Reg::RAX),
             Source::Imm(-0x1001),
         ),
         true,
@@ -104,15 +98,15 @@ const CASES: &[(Insn, bool)] = &[
         true,
     ),
     (
-        Insn::Test(Width::Byte, Place::Reg(RAX), Source::Imm(256)),
+        Insn::Test(Width::Byte, Place::Reg(Reg::RAX), Source::Imm(256)),
         false,
     ),
     (
-        Insn::Test(Width::Quad, Place::Reg(RAX), Source::Mem(STACK)),
+        Insn::Test(Width::Quad, Place::Reg(Reg::RAX), Source::Mem(STACK)),
         false,
     ),
     (
-        Insn::Bit(BitOp::Set, Width::Quad, Place::Reg(RAX), 255),
+        Insn::Bit(BitOp::Set, Width::Quad, Place::Reg(Reg::RAX), 255),
         true,
     ),
     (Insn::Jcc(15, 0), true),

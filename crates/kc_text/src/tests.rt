@@ -6,38 +6,6 @@ use kc_io::MemSink;
 use kc_words::Width;
 use std::test::Fail;
 
-const RAX: Reg = Reg(0);
-
-const RCX: Reg = Reg(1);
-
-const RDX: Reg = Reg(2);
-
-const RBX: Reg = Reg(3);
-
-const RSP: Reg = Reg(4);
-
-const RBP: Reg = Reg(5);
-
-const RSI: Reg = Reg(6);
-
-const RDI: Reg = Reg(7);
-
-const R8: Reg = Reg(8);
-
-const R9: Reg = Reg(9);
-
-const R10: Reg = Reg(10);
-
-const R11: Reg = Reg(11);
-
-const R12: Reg = Reg(12);
-
-const R13: Reg = Reg(13);
-
-const R14: Reg = Reg(14);
-
-const R15: Reg = Reg(15);
-
 // Each instruction and its text.
 const TEXTS: &[(Insn, &str)] = &[
     (Insn::Nop, "nop"),
@@ -57,12 +25,12 @@ const TEXTS: &[(Insn, &str)] = &[
     (Insn::Pushfq, "pushfq"),
     (Insn::Popfq, "popfq"),
     (Insn::Ret, "ret"),
-    (Insn::ReadCr3(R13), "mov r13, cr3"),
-    (Insn::WriteCr3(RSP), "mov cr3, rsp"),
-    (Insn::ReadGs(R8), "rdgsbase r8"),
-    (Insn::WriteGs(RSP), "wrgsbase rsp"),
+    (Insn::ReadCr3(Reg::R13), "mov r13, cr3"),
+    (Insn::WriteCr3(Reg::RSP), "mov cr3, rsp"),
+    (Insn::ReadGs(Reg::R8), "rdgsbase r8"),
+    (Insn::WriteGs(Reg::RSP), "wrgsbase rsp"),
     (
-        Insn::Mov(Width::Quad, Place::Reg(RAX), Source::Imm(0)),
+        Insn::Mov(Width::Quad, Place::Reg(Reg::RAX), Source::Imm(0)),
         "mov rax, 0x0",
     ),
     (Insn::Push(Source::Imm(0)), "push 0x0"),
@@ -71,7 +39,7 @@ const TEXTS: &[(Insn, &str)] = &[
             Width::Quad,
             Place::Mem(Mem {
                 gs: true,
-                base: Base::Reg(R12),
+                base: Base::Reg(Reg::R12),
                 index: None,
                 disp: 0,
             }),
@@ -80,7 +48,7 @@ const TEXTS: &[(Insn, &str)] = &[
         "mov qword gs:[r12], 0x0",
     ),
     (
-        Insn::Mov(Width::Long, Place::Reg(R9), Source::Imm(0)),
+        Insn::Mov(Width::Long, Place::Reg(Reg::R9), Source::Imm(0)),
         "mov r9d, 0x0",
     ),
     (
@@ -89,7 +57,7 @@ const TEXTS: &[(Insn, &str)] = &[
             Width::Long,
             Place::Mem(Mem {
                 gs: false,
-                base: Base::Reg(R13),
+                base: Base::Reg(Reg::R13),
                 index: None,
                 disp: 0,
             }),
@@ -98,18 +66,23 @@ const TEXTS: &[(Insn, &str)] = &[
         "cmp dword [r13], 0x0",
     ),
     (
-        Insn::Mov(Width::Quad, Place::Reg(RAX), Source::Imm(0x7f)),
+        Insn::Mov(Width::Quad, Place::Reg(Reg::RAX), Source::Imm(0x7f)),
         "mov rax, 0x7f",
     ),
     (Insn::Push(Source::Imm(-0x80)), "push -0x80"),
     (
-        Insn::Alu(AluOp::And, Width::Quad, Place::Reg(RSP), Source::Imm(-0x81)),
+        Insn::Alu(
+            AluOp::And,
+            Width::Quad,
+            Place::Reg(Reg::RSP),
+            Source::Imm(-0x81),
+        ),
         "and rsp, -0x81",
     ),
     (
         Insn::Mov(
             Width::Quad,
-            Place::Reg(RAX),
+            Place::Reg(Reg::RAX),
             Source::Imm(-0x8000_0000_0000_0000),
         ),
         "mov rax, -0x8000000000000000",
@@ -117,7 +90,7 @@ const TEXTS: &[(Insn, &str)] = &[
     (
         Insn::Mov(
             Width::Quad,
-            Place::Reg(RAX),
+            Place::Reg(Reg::RAX),
             Source::Imm(0x7fff_ffff_ffff_ffff),
         ),
         "mov rax, 0x7fffffffffffffff",
@@ -126,49 +99,49 @@ const TEXTS: &[(Insn, &str)] = &[
         Insn::Alu(
             AluOp::Xor,
             Width::Long,
-            Place::Reg(RAX),
+            Place::Reg(Reg::RAX),
             Source::Imm(0xffff_ff80),
         ),
         "xor eax, 0xffffff80",
     ),
     (
-        Insn::Test(Width::Byte, Place::Reg(RAX), Source::Imm(3)),
+        Insn::Test(Width::Byte, Place::Reg(Reg::RAX), Source::Imm(3)),
         "test al, 0x3",
     ),
     (
-        Insn::Test(Width::Byte, Place::Reg(RSP), Source::Imm(3)),
+        Insn::Test(Width::Byte, Place::Reg(Reg::RSP), Source::Imm(3)),
         "test spl, 0x3",
     ),
     (
-        Insn::Test(Width::Byte, Place::Reg(RDI), Source::Imm(3)),
+        Insn::Test(Width::Byte, Place::Reg(Reg::RDI), Source::Imm(3)),
         "test dil, 0x3",
     ),
     (
-        Insn::Test(Width::Byte, Place::Reg(R8), Source::Imm(3)),
+        Insn::Test(Width::Byte, Place::Reg(Reg::R8), Source::Imm(3)),
         "test r8b, 0x3",
     ),
     (
-        Insn::Xchg(Width::Long, Place::Reg(RAX), RAX),
+        Insn::Xchg(Width::Long, Place::Reg(Reg::RAX), Reg::RAX),
         "xchg eax, eax",
     ),
     (
-        Insn::Xchg(Width::Quad, Place::Reg(RCX), RAX),
+        Insn::Xchg(Width::Quad, Place::Reg(Reg::RCX), Reg::RAX),
         "xchg rcx, rax",
     ),
     (
         Insn::Pop(Place::Mem(Mem {
             gs: false,
-            base: Base::Reg(RSP),
+            base: Base::Reg(Reg::RSP),
             index: None,
             disp: 8,
         })),
         "pop [rsp+0x8]",
     ),
-    (Insn::Pop(Place::Reg(R12)), "pop r12"),
+    (Insn::Pop(Place::Reg(Reg::R12)), "pop r12"),
     (
         Insn::Lea(
             Width::Long,
-            R8,
+            Reg::R8,
             Mem {
                 gs: false,
                 base: Base::Rip,
@@ -186,11 +159,11 @@ const TEXTS: &[(Insn, &str)] = &[
             Width::Long,
             Place::Mem(Mem {
                 gs: false,
-                base: Base::Reg(R8),
+                base: Base::Reg(Reg::R8),
                 index: None,
                 disp: 0x800,
             }),
-            Source::Reg(RCX),
+            Source::Reg(Reg::RCX),
         ),
         "mov [r8+0x800], ecx",
     ),
@@ -201,7 +174,7 @@ const TEXTS: &[(Insn, &str)] = &[
     (
         Insn::Push(Source::Mem(Mem {
             gs: false,
-            base: Base::Reg(RSP),
+            base: Base::Reg(Reg::RSP),
             index: None,
             disp: 0x565d_4154,
         })),
@@ -213,8 +186,8 @@ const TEXTS: &[(Insn, &str)] = &[
             Width::Quad,
             Place::Mem(Mem {
                 gs: false,
-                base: Base::Reg(R13),
-                index: Some((RCX, 2)),
+                base: Base::Reg(Reg::R13),
+                index: Some((Reg::RCX, 2)),
                 disp: 0,
             }),
             0x98,
@@ -231,12 +204,12 @@ const TEXTS: &[(Insn, &str)] = &[
                 index: None,
                 disp: 0x7fff_ffff,
             }),
-            Source::Reg(RCX),
+            Source::Reg(Reg::RCX),
         ),
         "xor [rip+0x7fffffff], ecx",
     ),
     (
-        Insn::Bit(BitOp::Reset, Width::Quad, Place::Reg(RSP), 0x47),
+        Insn::Bit(BitOp::Reset, Width::Quad, Place::Reg(Reg::RSP), 0x47),
         "btr rsp, 0x47",
     ),
     (
@@ -245,11 +218,11 @@ const TEXTS: &[(Insn, &str)] = &[
             Width::Quad,
             Place::Mem(Mem {
                 gs: false,
-                base: Base::Reg(RDI),
+                base: Base::Reg(Reg::RDI),
                 index: None,
                 disp: 0x50b_b692,
             }),
-            Source::Reg(R15),
+            Source::Reg(Reg::R15),
         ),
         "or [rdi+0x50bb692], r15",
     ),
@@ -259,8 +232,8 @@ const TEXTS: &[(Insn, &str)] = &[
             Width::Quad,
             Place::Mem(Mem {
                 gs: false,
-                base: Base::Reg(RDI),
-                index: Some((R11, 1)),
+                base: Base::Reg(Reg::RDI),
+                index: Some((Reg::R11, 1)),
                 disp: -0x37,
             }),
             Source::Imm(-0x1001),
@@ -275,8 +248,8 @@ const TEXTS: &[(Insn, &str)] = &[
     (
         Insn::Pop(Place::Mem(Mem {
             gs: true,
-            base: Base::Reg(RAX),
-            index: Some((RAX, 8)),
+            base: Base::Reg(Reg::RAX),
+            index: Some((Reg::RAX, 8)),
             disp: 0x7fff_ffff,
         })),
         "pop gs:[rax+rax*8+0x7fffffff]",
@@ -286,11 +259,11 @@ const TEXTS: &[(Insn, &str)] = &[
             Width::Quad,
             Place::Mem(Mem {
                 gs: true,
-                base: Base::Reg(RDX),
+                base: Base::Reg(Reg::RDX),
                 index: None,
                 disp: -0x8000_0000,
             }),
-            Source::Reg(R10),
+            Source::Reg(Reg::R10),
         ),
         "mov gs:[rdx-0x80000000], r10",
     ),
@@ -299,11 +272,11 @@ const TEXTS: &[(Insn, &str)] = &[
             Width::Long,
             Place::Mem(Mem {
                 gs: true,
-                base: Base::Reg(RCX),
+                base: Base::Reg(Reg::RCX),
                 index: None,
                 disp: -0x17,
             }),
-            Source::Reg(RCX),
+            Source::Reg(Reg::RCX),
         ),
         "test gs:[rcx-0x17], ecx",
     ),
@@ -312,11 +285,11 @@ const TEXTS: &[(Insn, &str)] = &[
             Width::Quad,
             Place::Mem(Mem {
                 gs: false,
-                base: Base::Reg(RDX),
-                index: Some((R15, 8)),
+                base: Base::Reg(Reg::RDX),
+                index: Some((Reg::R15, 8)),
                 disp: 0xd98_2dab,
             }),
-            RBX,
+            Reg::RBX,
         ),
         "xchg [rdx+r15*8+0xd982dab], rbx",
     ),
@@ -324,10 +297,10 @@ const TEXTS: &[(Insn, &str)] = &[
         Insn::Alu(
             AluOp::Sub,
             Width::Quad,
-            Place::Reg(R9),
+            Place::Reg(Reg::R9),
             Source::Mem(Mem {
                 gs: true,
-                base: Base::Reg(RSI),
+                base: Base::Reg(Reg::RSI),
                 index: None,
                 disp: -0x5e8c_2c6e,
             }),
@@ -340,7 +313,7 @@ const TEXTS: &[(Insn, &str)] = &[
             Width::Long,
             Place::Mem(Mem {
                 gs: false,
-                base: Base::Reg(RDX),
+                base: Base::Reg(Reg::RDX),
                 index: None,
                 disp: -0x4a02_62c6,
             }),
@@ -367,7 +340,7 @@ const TEXTS: &[(Insn, &str)] = &[
             Width::Long,
             Place::Mem(Mem {
                 gs: true,
-                base: Base::Reg(R8),
+                base: Base::Reg(Reg::R8),
                 index: None,
                 disp: -0x69c7_a7c4,
             }),
@@ -382,7 +355,7 @@ const TEXTS: &[(Insn, &str)] = &[
             Place::Mem(Mem {
                 gs: false,
                 base: Base::Absent,
-                index: Some((RDI, 8)),
+                index: Some((Reg::RDI, 8)),
                 disp: 0,
             }),
             0xe3,
@@ -390,7 +363,7 @@ const TEXTS: &[(Insn, &str)] = &[
         "bts dword [rdi*8], 0xe3",
     ),
     (
-        Insn::Bit(BitOp::Test, Width::Quad, Place::Reg(R11), 0x79),
+        Insn::Bit(BitOp::Test, Width::Quad, Place::Reg(Reg::R11), 0x79),
         "bt r11, 0x79",
     ),
     (Insn::Jcc(3, 0x6f37_12ac), "jae 0x000000006f3712ac"),
@@ -405,18 +378,18 @@ const TEXTS: &[(Insn, &str)] = &[
     (
         Insn::Push(Source::Mem(Mem {
             gs: false,
-            base: Base::Reg(R9),
-            index: Some((R10, 1)),
+            base: Base::Reg(Reg::R9),
+            index: Some((Reg::R10, 1)),
             disp: 0,
         })),
         "push [r9+r10]",
     ),
     (
-        Insn::Test(Width::Quad, Place::Reg(R15), Source::Reg(R14)),
+        Insn::Test(Width::Quad, Place::Reg(Reg::R15), Source::Reg(Reg::R14)),
         "test r15, r14",
     ),
     (
-        Insn::Mov(Width::Long, Place::Reg(RBP), Source::Reg(RDI)),
+        Insn::Mov(Width::Long, Place::Reg(Reg::RBP), Source::Reg(Reg::RDI)),
         "mov ebp, edi",
     ),
     (Insn::Jcc(0, 0x10), "jo 0x0000000000000010"),
@@ -466,7 +439,7 @@ const MEMORY: &[(bool, Base, Option<(Reg, u8)>, i32, &str, &str)] = &[
     ),
     (
         false,
-        Base::Reg(RSP),
+        Base::Reg(Reg::RSP),
         None,
         0,
         "mov r10, [rsp]",
@@ -474,7 +447,7 @@ const MEMORY: &[(bool, Base, Option<(Reg, u8)>, i32, &str, &str)] = &[
     ),
     (
         false,
-        Base::Reg(RBP),
+        Base::Reg(Reg::RBP),
         None,
         0,
         "mov r10, [rbp]",
@@ -482,7 +455,7 @@ const MEMORY: &[(bool, Base, Option<(Reg, u8)>, i32, &str, &str)] = &[
     ),
     (
         false,
-        Base::Reg(R12),
+        Base::Reg(Reg::R12),
         None,
         0x7f,
         "mov r10, [r12+0x7f]",
@@ -490,7 +463,7 @@ const MEMORY: &[(bool, Base, Option<(Reg, u8)>, i32, &str, &str)] = &[
     ),
     (
         false,
-        Base::Reg(R13),
+        Base::Reg(Reg::R13),
         None,
         0x80,
         "mov r10, [r13+0x80]",
@@ -498,16 +471,16 @@ const MEMORY: &[(bool, Base, Option<(Reg, u8)>, i32, &str, &str)] = &[
     ),
     (
         false,
-        Base::Reg(RAX),
-        Some((RCX, 1)),
+        Base::Reg(Reg::RAX),
+        Some((Reg::RCX, 1)),
         -0x80,
         "mov r10, [rax+rcx-0x80]",
         "test byte [rax+rcx-0x80], 0xff",
     ),
     (
         false,
-        Base::Reg(RBP),
-        Some((R9, 8)),
+        Base::Reg(Reg::RBP),
+        Some((Reg::R9, 8)),
         0,
         "mov r10, [rbp+r9*8]",
         "test byte [rbp+r9*8], 0xff",
@@ -515,7 +488,7 @@ const MEMORY: &[(bool, Base, Option<(Reg, u8)>, i32, &str, &str)] = &[
     (
         false,
         Base::Absent,
-        Some((RCX, 1)),
+        Some((Reg::RCX, 1)),
         0,
         "mov r10, [rcx]",
         "test byte [rcx], 0xff",
@@ -523,31 +496,31 @@ const MEMORY: &[(bool, Base, Option<(Reg, u8)>, i32, &str, &str)] = &[
     (
         false,
         Base::Absent,
-        Some((R12, 4)),
+        Some((Reg::R12, 4)),
         8,
         "mov r10, [r12*4+0x8]",
         "test byte [r12*4+0x8], 0xff",
     ),
     (
         false,
-        Base::Reg(RSP),
-        Some((RBP, 2)),
+        Base::Reg(Reg::RSP),
+        Some((Reg::RBP, 2)),
         -0x81,
         "mov r10, [rsp+rbp*2-0x81]",
         "test byte [rsp+rbp*2-0x81], 0xff",
     ),
     (
         true,
-        Base::Reg(R15),
-        Some((R15, 8)),
+        Base::Reg(Reg::R15),
+        Some((Reg::R15, 8)),
         0x7fff_ffff,
         "mov r10, gs:[r15+r15*8+0x7fffffff]",
         "test byte gs:[r15+r15*8+0x7fffffff], 0xff",
     ),
     (
         false,
-        Base::Reg(R13),
-        Some((RAX, 1)),
+        Base::Reg(Reg::R13),
+        Some((Reg::RAX, 1)),
         0,
         "mov r10, [r13+rax]",
         "test byte [r13+rax], 0xff",
@@ -576,7 +549,7 @@ fn memory_operands_have_the_texts_of_the_table(rt: HostRuntime) -> Result<(), Fa
             disp: *disp,
         };
         let mut sink = MemSink::new(alloc, 96, Vec::new(alloc)).expect(&rt, "memory");
-        let insn = Insn::Mov(Width::Quad, Place::Reg(R10), Source::Mem(m));
+        let insn = Insn::Mov(Width::Quad, Place::Reg(Reg::R10), Source::Mem(m));
         assert!(rt; write_insn(&mut sink, &insn).is_ok());
         assert!(rt; sink.bytes() == load.as_bytes(), "{load}");
         let mut sink = MemSink::new(alloc, 96, Vec::new(alloc)).expect(&rt, "memory");

@@ -26,7 +26,7 @@ fn gs_load(disp: &[u8; 4]) -> Insn
         index: None,
         disp,
     };
-    Insn::Mov(Width::Quad, Place::Reg(Reg(0)), Source::Mem(mem))
+    Insn::Mov(Width::Quad, Place::Reg(Reg::RAX), Source::Mem(mem))
 }
 
 /// The instruction that the bytes begin with.
