@@ -239,16 +239,7 @@ fn takes_modrm(form: Form, rex: Option<Rex>, mode: u8, reg: u8, rm: u8) -> bool
         Form::PopRm | Form::Nop => reg == 0,
         Form::ReadCr3 | Form::WriteCr3 => mode == 3 && reg == 3,
         Form::GsBase => mode == 3 && (reg == 1 || reg == 3),
-        Form::Plain(_)
-        | Form::PlainW(_)
-        | Form::LastByte(_)
-        | Form::PushRegister(_)
-        | Form::PopRegister(_)
-        | Form::RegisterImm(_)
-        | Form::PushImm(_)
-        | Form::TestRax
-        | Form::TestAl
-        | Form::Relative(_, _) => false,
+        _ => false,
     }
 }
 

@@ -11,177 +11,71 @@ use kc_insn::Rex;
 fn has_rm(form: Form) -> bool
     ensures { result ≡ form_has_rm (form_of form) }
 {
-    match form {
+    matches!(
+        form,
         Form::RmReg(_)
-        | Form::MovLoad
-        | Form::AluLoad(_)
-        | Form::Lea
-        | Form::RmImm(_, _)
-        | Form::TestByte
-        | Form::Bit
-        | Form::PushRm
-        | Form::PopRm
-        | Form::Nop => true,
-        Form::Plain(_)
-        | Form::PlainW(_)
-        | Form::LastByte(_)
-        | Form::PushRegister(_)
-        | Form::PopRegister(_)
-        | Form::RegisterImm(_)
-        | Form::ReadCr3
-        | Form::WriteCr3
-        | Form::GsBase
-        | Form::PushImm(_)
-        | Form::TestRax
-        | Form::TestAl
-        | Form::Relative(_, _) => false,
-    }
+            | Form::MovLoad
+            | Form::AluLoad(_)
+            | Form::Lea
+            | Form::RmImm(_, _)
+            | Form::TestByte
+            | Form::Bit
+            | Form::PushRm
+            | Form::PopRm
+            | Form::Nop
+    )
 }
 
 fn has_reg(form: Form) -> bool
     ensures { result ≡ form_has_reg (form_of form) }
 {
-    match form {
-        Form::RmReg(_) | Form::MovLoad | Form::AluLoad(_) | Form::Lea => true,
-        Form::RmImm(_, _)
-        | Form::TestByte
-        | Form::Bit
-        | Form::PushRm
-        | Form::PopRm
-        | Form::Nop
-        | Form::Plain(_)
-        | Form::PlainW(_)
-        | Form::LastByte(_)
-        | Form::PushRegister(_)
-        | Form::PopRegister(_)
-        | Form::RegisterImm(_)
-        | Form::ReadCr3
-        | Form::WriteCr3
-        | Form::GsBase
-        | Form::PushImm(_)
-        | Form::TestRax
-        | Form::TestAl
-        | Form::Relative(_, _) => false,
-    }
+    matches!(
+        form,
+        Form::RmReg(_) | Form::MovLoad | Form::AluLoad(_) | Form::Lea
+    )
 }
 
 fn has_register(form: Form) -> bool
     ensures { result ≡ form_has_register (form_of form) }
 {
-    match form {
-        Form::PushRegister(_)
-        | Form::PopRegister(_)
-        | Form::RegisterImm(_)
-        | Form::ReadCr3
-        | Form::WriteCr3
-        | Form::GsBase
-        | Form::RmReg(_)
-        | Form::MovLoad
-        | Form::AluLoad(_)
-        | Form::Lea
-        | Form::RmImm(_, _)
-        | Form::TestByte
-        | Form::Bit
-        | Form::PushRm
-        | Form::PopRm
-        | Form::Nop => true,
-        Form::Plain(_)
-        | Form::PlainW(_)
-        | Form::LastByte(_)
-        | Form::PushImm(_)
-        | Form::TestRax
-        | Form::TestAl
-        | Form::Relative(_, _) => false,
-    }
+    has_rm(form)
+        || matches!(
+            form,
+            Form::PushRegister(_)
+                | Form::PopRegister(_)
+                | Form::RegisterImm(_)
+                | Form::ReadCr3
+                | Form::WriteCr3
+                | Form::GsBase
+        )
 }
 
 fn has_access(form: Form) -> bool
     ensures { result ≡ form_has_access (form_of form) }
 {
-    match form {
-        Form::RmReg(_)
-        | Form::MovLoad
-        | Form::AluLoad(_)
-        | Form::RmImm(_, _)
-        | Form::TestByte
-        | Form::Bit
-        | Form::PushRm
-        | Form::PopRm => true,
-        Form::Lea
-        | Form::Nop
-        | Form::Plain(_)
-        | Form::PlainW(_)
-        | Form::LastByte(_)
-        | Form::PushRegister(_)
-        | Form::PopRegister(_)
-        | Form::RegisterImm(_)
-        | Form::ReadCr3
-        | Form::WriteCr3
-        | Form::GsBase
-        | Form::PushImm(_)
-        | Form::TestRax
-        | Form::TestAl
-        | Form::Relative(_, _) => false,
-    }
+    has_rm(form) && !matches!(form, Form::Lea | Form::Nop)
 }
 
 fn has_width(form: Form) -> bool
     ensures { result ≡ form_has_width (form_of form) }
 {
-    match form {
+    matches!(
+        form,
         Form::RegisterImm(_)
-        | Form::RmReg(_)
-        | Form::MovLoad
-        | Form::AluLoad(_)
-        | Form::Lea
-        | Form::RmImm(_, _)
-        | Form::Bit
-        | Form::TestRax => true,
-        Form::TestByte
-        | Form::PushRm
-        | Form::PopRm
-        | Form::Nop
-        | Form::Plain(_)
-        | Form::PlainW(_)
-        | Form::LastByte(_)
-        | Form::PushRegister(_)
-        | Form::PopRegister(_)
-        | Form::ReadCr3
-        | Form::WriteCr3
-        | Form::GsBase
-        | Form::PushImm(_)
-        | Form::TestAl
-        | Form::Relative(_, _) => false,
-    }
+            | Form::RmReg(_)
+            | Form::MovLoad
+            | Form::AluLoad(_)
+            | Form::Lea
+            | Form::RmImm(_, _)
+            | Form::Bit
+            | Form::TestRax
+    )
 }
 
 fn needs_w(form: Form) -> bool
     ensures { result ≡ form_needs_w (form_of form) }
 {
-    match form {
-        Form::PlainW(_) | Form::GsBase => true,
-        Form::RmReg(_)
-        | Form::MovLoad
-        | Form::AluLoad(_)
-        | Form::Lea
-        | Form::RmImm(_, _)
-        | Form::TestByte
-        | Form::Bit
-        | Form::PushRm
-        | Form::PopRm
-        | Form::Nop
-        | Form::Plain(_)
-        | Form::LastByte(_)
-        | Form::PushRegister(_)
-        | Form::PopRegister(_)
-        | Form::RegisterImm(_)
-        | Form::ReadCr3
-        | Form::WriteCr3
-        | Form::PushImm(_)
-        | Form::TestRax
-        | Form::TestAl
-        | Form::Relative(_, _) => false,
-    }
+    matches!(form, Form::PlainW(_) | Form::GsBase)
 }
 
 fn permits_width(form: Form, w: bool) -> bool

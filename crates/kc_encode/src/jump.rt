@@ -27,35 +27,7 @@ pub fn reaches(insn: Insn, at: u64) -> bool
     match insn {
         Insn::Jcc(_, target) => in_reach(at, 6, target),
         Insn::Jmp(target) | Insn::Call(target) => in_reach(at, 5, target),
-        Insn::Nop
-        | Insn::Endbr64
-        | Insn::Lfence
-        | Insn::Ud2
-        | Insn::Cld
-        | Insn::Clac
-        | Insn::Stac
-        | Insn::Cli
-        | Insn::Sti
-        | Insn::Swapgs
-        | Insn::Sysretq
-        | Insn::Iretq
-        | Insn::Rdmsr
-        | Insn::Wrmsr
-        | Insn::Pushfq
-        | Insn::Popfq
-        | Insn::Ret
-        | Insn::ReadCr3(_)
-        | Insn::WriteCr3(_)
-        | Insn::ReadGs(_)
-        | Insn::WriteGs(_)
-        | Insn::Mov(_, _, _)
-        | Insn::Lea(_, _, _)
-        | Insn::Xchg(_, _, _)
-        | Insn::Push(_)
-        | Insn::Pop(_)
-        | Insn::Alu(_, _, _, _)
-        | Insn::Test(_, _, _)
-        | Insn::Bit(_, _, _, _) => true,
+        _ => true,
     }
 }
 
