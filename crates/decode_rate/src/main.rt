@@ -2,23 +2,25 @@
 //! `decode_rate FILE` prints how many there are, and where the first byte stands that begins none.
 #![tactic(auto)]
 
+ghost use Rattle.std.specs.Prelude.{◌≤◌, length, drop};
+ghost use Rattle.kc_decode.specs.Begins.{HasFront};
+ghost use Rattle.decode_rate.specs.Run.{AreInstructions};
+
 use kc_decode::decode;
 use std::{env, fs, io};
 
 /// How many instructions follow each other at the front, and how many bytes they have.
-fn count(bytes: &[u8]) -> (usize, usize) {
+fn count(bytes: &[u8]) -> (usize, usize)
+    ensures within { result.1 ≤ length bytes.now }
+    ensures counted { AreInstructions bytes.now result.0 result.1 }
+    // No instruction begins behind them.
+    ensures ended { ¬ (HasFront (drop result.1 bytes.now) result.1) }
+{
     let mut instructions = 0usize;
     let mut at = 0usize;
-    while at < bytes.len() {
-        let Ok((_, len)) = decode(&bytes[at..], at as u64) else {
-            break;
-        };
-        let next = at.saturating_add(usize::from(len));
-        if next <= at || next > bytes.len() {
-            break;
-        }
-        at = next;
-        instructions = instructions.saturating_add(1);
+    while let Ok((_, len)) = decode(&bytes[at..], at as u64) {
+        at += usize::from(len);
+        instructions += 1;
     }
     (instructions, at)
 }

@@ -67,6 +67,12 @@ not-eq a b n = not-at a b n (eqb a b) refl
 fails-is : (e f : DecodeFault) → fails e ≡ fails f → e ≡ f
 fails-is e f h = cc
 
+-- no instruction is spelled by no byte
+spelled-some : (bs : List ℕ) (d : Draft) → Spelled bs d → 0 < length bs
+unfolding draft_at
+spelled-some [] d h = let read : draft_at [] ≡ Ok (d, []) = exact-draft.again [] [] d h in absurd cc
+spelled-some (b ∷ bs) d h = omega arith
+
 -- ---- what is answered
 
 module _ (bs : List ℕ) (at : ℕ) (fit : AreBytes bs) where
@@ -125,7 +131,7 @@ module _ (bs : List ℕ) (at : ℕ) (fit : AreBytes bs) where
       inr (c.0, resolve (at + length (bs ++ c.0)) c.1, c.2, (c.1, c.3, refl))
 
   begins-not : (e : DecodeFault) → draft_at bs ≡ Err e → is_short e ≡ false → BeginsUnbounded bs at → ⊥
-  begins-not e h s (inl b) = let one = front-draft b.0 b.3.0 b.3.1 in let clash : Err e ≡ Ok (b.3.0, drop b.0 bs) = sym h ∙ one in cc
+  begins-not e h s (inl b) = let one = front-draft b.0 b.3.0 b.3.1 in let clash : fails e ≡ Ok (b.3.0, drop b.0 bs) = sym h ∙ one in cc
   begins-not e h s (inr b) =
       let k = exact-short is_short draft_at Spelled exact-draft bs b.0 b.3.0 fit b.2 b.3.1 in
       let same : e ≡ k.0 = fails-is e k.0 (sym h ∙ k.1) in
@@ -160,6 +166,14 @@ module _ (bs : List ℕ) (at : ℕ) (fit : AreBytes bs) where
   pub is-found : (r : Result (Insn × ℕ) DecodeFault) → Gives (λ x. (x.0, x.1)) r (decode_at bs at) → IfOk r (λ x. (x.1 ≤ length bs) × Spells (take x.1 bs) at x.0)
   is-found (Ok x) given = decoded-found x.0 x.1 given
   is-found (Err e) given = tt
+
+  pub is-length : (r : Result (Insn × ℕ) DecodeFault) → Gives (λ x. (x.0, x.1)) r (decode_at bs at) → IfOk r (λ x. (0 < x.1) × (x.1 ≤ 15))
+  is-length (Ok x) given =
+      let found = decoded-found x.0 x.1 given in
+      let some = spelled-some (take x.1 bs) found.1.1.0 found.1.1.1 in
+      let len = length-take x.1 bs in
+      omega (arith, found.0, found.1.0, some, len)
+  is-length (Err e) given = tt
 
   same-answer : (r : Result (Insn × ℕ) DecodeFault) → Gives (λ x. (x.0, x.1)) r (decode_at bs at) → decode_at bs at ≡ r
   same-answer (Ok x) given = given

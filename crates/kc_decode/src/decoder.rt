@@ -1,6 +1,6 @@
 //! The decoder: an instruction at the front of some bytes (Intel SDM vol. 2, "Instruction Format").
 
-ghost use Rattle.std.specs.Prelude.{◌≡◌, ℕ, ◌≤◌, ◌↔◌, List, ◌++◌, length, take, IfOk, Ok, Err};
+ghost use Rattle.std.specs.Prelude.{◌≡◌, ℕ, ◌<◌, ◌≤◌, ◌↔◌, List, ◌++◌, length, take, IfOk, Ok, Err};
 ghost use Rattle.kc_insn.specs.declared.insn.Insn.{Insn as InsnValue};
 ghost use Rattle.kc_insn.specs.Spells.{resolve as resolved, Spells};
 ghost use Rattle.kc_decode.specs.Views.{draft_of, jump_of};
@@ -66,6 +66,8 @@ fn decode_front(bytes: &[u8], at: u64) -> Result<(Insn, u8), DecodeFault>
 pub fn decode(bytes: &[u8], at: u64) -> Result<(Insn, u8), DecodeFault>
     // What is answered is spelled so.
     ensures found { IfOk result (λ x. (x.1 ≤ length bytes.now) × Spells (take x.1 bytes.now) at x.0) }
+    // An instruction has at least one byte, and at most fifteen.
+    ensures length { IfOk result (λ x. (0 < x.1) × (x.1 ≤ 15)) }
     // What a front of the bytes spells is answered.
     ensures only { (n : ℕ) (insn : InsnValue) → n ≤ length bytes.now → Spells (take n bytes.now) at insn → result ≡ Ok (insn, n) }
     // The bytes are a proper prefix of a spelling.

@@ -25,74 +25,55 @@ pub fn byte(bytes: &[u8]) -> Result<(u8, &[u8]), DecodeFault>
 pub fn number1(bytes: &[u8]) -> Result<(u8, &[u8]), DecodeFault>
     ensures { Gives (λ x. (x.0, x.1.now)) result (number_at Short 1 bytes.now) }
 {
-    let (number, rest) = byte(bytes)?;
-    Ok((number, rest))
+    byte(bytes)
 }
 
 /// A number of four bytes.
 pub fn number4(bytes: &[u8]) -> Result<(u32, &[u8]), DecodeFault>
     ensures { Gives (λ x. (x.0, x.1.now)) result (number_at Short 4 bytes.now) }
 {
-    let (b0, rest) = byte(bytes)?;
-    let (b1, rest) = byte(rest)?;
-    let (b2, rest) = byte(rest)?;
-    let (b3, rest) = byte(rest)?;
-    Ok((u32::from_le_bytes([b0, b1, b2, b3]), rest))
+    match bytes.split_first_chunk::<4>() {
+        Some((number, rest)) => Ok((u32::from_le_bytes(*number), rest)),
+        None => Err(DecodeFault::Short),
+    }
 }
 
 /// A number of eight bytes.
 pub fn number8(bytes: &[u8]) -> Result<(u64, &[u8]), DecodeFault>
     ensures { Gives (λ x. (x.0, x.1.now)) result (number_at Short 8 bytes.now) }
 {
-    let (b0, rest) = byte(bytes)?;
-    let (b1, rest) = byte(rest)?;
-    let (b2, rest) = byte(rest)?;
-    let (b3, rest) = byte(rest)?;
-    let (b4, rest) = byte(rest)?;
-    let (b5, rest) = byte(rest)?;
-    let (b6, rest) = byte(rest)?;
-    let (b7, rest) = byte(rest)?;
-    Ok((u64::from_le_bytes([b0, b1, b2, b3, b4, b5, b6, b7]), rest))
+    match bytes.split_first_chunk::<8>() {
+        Some((number, rest)) => Ok((u64::from_le_bytes(*number), rest)),
+        None => Err(DecodeFault::Short),
+    }
 }
 
 /// REX.W.
 pub fn rex_w(rex: Option<Rex>) -> bool
     ensures { result ≡ w_bit rex }
 {
-    match rex {
-        Some(rex) => rex.w,
-        None => false,
-    }
+    rex.is_some_and(|rex| rex.w)
 }
 
 /// REX.R.
 pub fn rex_r(rex: Option<Rex>) -> bool
     ensures { result ≡ r_bit rex }
 {
-    match rex {
-        Some(rex) => rex.r,
-        None => false,
-    }
+    rex.is_some_and(|rex| rex.r)
 }
 
 /// REX.X.
 pub fn rex_x(rex: Option<Rex>) -> bool
     ensures { result ≡ x_bit rex }
 {
-    match rex {
-        Some(rex) => rex.x,
-        None => false,
-    }
+    rex.is_some_and(|rex| rex.x)
 }
 
 /// REX.B.
 pub fn rex_b(rex: Option<Rex>) -> bool
     ensures { result ≡ b_bit rex }
 {
-    match rex {
-        Some(rex) => rex.b,
-        None => false,
-    }
+    rex.is_some_and(|rex| rex.b)
 }
 
 /// The register of a field of three bits and the REX bit that extends it.

@@ -204,24 +204,9 @@ pub fn group_insn(group: Group, reg: u8, w: Width, rm: Place, source: Source) ->
     ensures { result ≡ option_map (λ make. make w rm source) (group_of group reg) }
 {
     match group {
-        Group::Mov => {
-            if reg == 0 {
-                Some(Insn::Mov(w, rm, source))
-            } else {
-                None
-            }
-        }
-        Group::Test => {
-            if reg == 0 {
-                Some(Insn::Test(w, rm, source))
-            } else {
-                None
-            }
-        }
-        Group::Alu => match alu_op(reg) {
-            Some(op) => Some(Insn::Alu(op, w, rm, source)),
-            None => None,
-        },
+        Group::Mov => (reg == 0).then_some(Insn::Mov(w, rm, source)),
+        Group::Test => (reg == 0).then_some(Insn::Test(w, rm, source)),
+        Group::Alu => alu_op(reg).map(|op| Insn::Alu(op, w, rm, source)),
     }
 }
 

@@ -47,20 +47,8 @@ fn last_insn(last: Last, byte: u8) -> Option<Insn>
             0xCB => Some(Insn::Stac),
             _ => None,
         },
-        Last::Lfence => {
-            if byte == 0xE8 {
-                Some(Insn::Lfence)
-            } else {
-                None
-            }
-        }
-        Last::Endbr64 => {
-            if byte == 0xFA {
-                Some(Insn::Endbr64)
-            } else {
-                None
-            }
-        }
+        Last::Lfence => (byte == 0xE8).then_some(Insn::Lfence),
+        Last::Endbr64 => (byte == 0xFA).then_some(Insn::Endbr64),
     }
 }
 
@@ -178,10 +166,7 @@ fn test_byte(head: Head, bytes: &[u8]) -> Result<(Draft, &[u8]), DecodeFault>
 fn bit_insn(reg: u8, w: Width, rm: Place, bit: u8) -> Option<Insn>
     ensures { result ≡ option_map (λ op. InsnBit op w rm bit) (bit_of reg) }
 {
-    match bit_op(reg) {
-        Some(op) => Some(Insn::Bit(op, w, rm, bit)),
-        None => None,
-    }
+    bit_op(reg).map(|op| Insn::Bit(op, w, rm, bit))
 }
 
 #[tactic(auto, unfolding(crate::specs::Reading::tail_at))]
@@ -224,14 +209,7 @@ fn read_cr3(head: Head, bytes: &[u8]) -> Result<(Draft, &[u8]), DecodeFault>
 {
     let ((reg, rm), rest) = operand(Form::ReadCr3, head, bytes)?;
     match rm {
-        Place::Reg(r) => made(
-            if reg == 3 {
-                Some(Insn::ReadCr3(r))
-            } else {
-                None
-            },
-            rest,
-        ),
+        Place::Reg(r) => made((reg == 3).then_some(Insn::ReadCr3(r)), rest),
         Place::Mem(_) => Err(DecodeFault::Unknown),
     }
 }
@@ -242,14 +220,7 @@ fn write_cr3(head: Head, bytes: &[u8]) -> Result<(Draft, &[u8]), DecodeFault>
 {
     let ((reg, rm), rest) = operand(Form::WriteCr3, head, bytes)?;
     match rm {
-        Place::Reg(r) => made(
-            if reg == 3 {
-                Some(Insn::WriteCr3(r))
-            } else {
-                None
-            },
-            rest,
-        ),
+        Place::Reg(r) => made((reg == 3).then_some(Insn::WriteCr3(r)), rest),
         Place::Mem(_) => Err(DecodeFault::Unknown),
     }
 }

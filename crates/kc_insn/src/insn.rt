@@ -9,36 +9,52 @@ pub struct Reg(pub u8);
 
 /// The registers by the names of the manual.
 impl Reg {
+    /// The accumulator, number 0. Its low bytes are EAX and AL.
     pub const RAX: Reg = Reg(0);
 
+    /// Number 1. SYSCALL leaves the address to return to in it; RDMSR and WRMSR take their number from it.
     pub const RCX: Reg = Reg(1);
 
+    /// Number 2. RDMSR and WRMSR have the upper half of what they move in it.
     pub const RDX: Reg = Reg(2);
 
+    /// Number 3. Its low byte is BL.
     pub const RBX: Reg = Reg(3);
 
+    /// The stack pointer, number 4. Its low byte is SPL, which only a REX byte names.
     pub const RSP: Reg = Reg(4);
 
+    /// Number 5. Its low byte is BPL, which only a REX byte names.
     pub const RBP: Reg = Reg(5);
 
+    /// Number 6. Its low byte is SIL, which only a REX byte names.
     pub const RSI: Reg = Reg(6);
 
+    /// Number 7. Its low byte is DIL, which only a REX byte names.
     pub const RDI: Reg = Reg(7);
 
+    /// Number 8. This register and those after it are named with a bit of REX.
     pub const R8: Reg = Reg(8);
 
+    /// Number 9.
     pub const R9: Reg = Reg(9);
 
+    /// Number 10.
     pub const R10: Reg = Reg(10);
 
+    /// Number 11. SYSCALL leaves RFLAGS in it.
     pub const R11: Reg = Reg(11);
 
+    /// Number 12. As a base it takes a SIB byte, as RSP does.
     pub const R12: Reg = Reg(12);
 
+    /// Number 13. As a base it takes a displacement, as RBP does.
     pub const R13: Reg = Reg(13);
 
+    /// Number 14.
     pub const R14: Reg = Reg(14);
 
+    /// Number 15.
     pub const R15: Reg = Reg(15);
 }
 

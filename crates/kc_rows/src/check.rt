@@ -34,6 +34,50 @@ const HIGHEST: &[u8] = b"ENTRYRAW\xfc\xff\xff\xff\xff\xff\xff\xff\x48\x0f\x07";
 /// The last byte of code is at 2^64 - 1.
 const PAST: &[u8] = b"ENTRYRAW\xfd\xff\xff\xff\xff\xff\xff\xff\x48\x0f\x07";
 
+/// Images, letters, and the status and line of `check`.
+const LINES: &[(&[u8], &[u8], u8, &str)] = &[
+    (ACCEPTED, b"uukku", 0, "accepted contexts=1 nodes=5\n"),
+    (FOLLOWED, b"u", 0, "accepted contexts=1 nodes=1\n"),
+    (HIGHEST, b"u", 0, "accepted contexts=1 nodes=1\n"),
+    (
+        ACCEPTED,
+        b"uuuuu",
+        1,
+        "refused C13 context 0 at 0xffffffff81000001\n",
+    ),
+    (ACCEPTED, b"", 1, "refused C2\n"),
+    (ACCEPTED, b"uukkuu", 1, "refused C2\n"),
+    (ACCEPTED, b"kukku", 1, "refused C3\n"),
+    (
+        UNSWAPPED,
+        b"uuu",
+        1,
+        "refused C6 context 0 at 0xffffffff81000001\n",
+    ),
+    (
+        UNRETURNED,
+        b"uk",
+        1,
+        "refused C12 context 0 at 0xffffffff81000003\n",
+    ),
+    (
+        UNDECODABLE,
+        b"u",
+        1,
+        "refused C5 context 0 at 0xffffffff81000001\n",
+    ),
+    (
+        ENDLESS,
+        b"",
+        1,
+        "refused C5 context 0 at 0xffffffff81000001\n",
+    ),
+    (PAST, b"u", 3, "bad image 6 SegmentOut at 8\n"),
+    (b"ENTRYRAX", b"u", 3, "bad image 1 BadMagic at 7\n"),
+    (ACCEPTED, b"uuxku", 5, "bad certificate 6 Range at 2\n"),
+    (UNDECODABLE, b"\n", 5, "bad certificate 6 Range at 0\n"),
+];
+
 #[test]
 fn words_that_are_no_command_get_the_usage_line(rt: HostRuntime) -> Result<(), Fail> {
     let cases: [&[&str]; 12] = [
@@ -60,49 +104,7 @@ fn words_that_are_no_command_get_the_usage_line(rt: HostRuntime) -> Result<(), F
 
 #[test]
 fn each_image_and_its_letters_get_their_line(rt: HostRuntime) -> Result<(), Fail> {
-    let cases: [(&[u8], &[u8], u8, &str); 15] = [
-        (ACCEPTED, b"uukku", 0, "accepted contexts=1 nodes=5\n"),
-        (FOLLOWED, b"u", 0, "accepted contexts=1 nodes=1\n"),
-        (HIGHEST, b"u", 0, "accepted contexts=1 nodes=1\n"),
-        (
-            ACCEPTED,
-            b"uuuuu",
-            1,
-            "refused C13 context 0 at 0xffffffff81000001\n",
-        ),
-        (ACCEPTED, b"", 1, "refused C2\n"),
-        (ACCEPTED, b"uukkuu", 1, "refused C2\n"),
-        (ACCEPTED, b"kukku", 1, "refused C3\n"),
-        (
-            UNSWAPPED,
-            b"uuu",
-            1,
-            "refused C6 context 0 at 0xffffffff81000001\n",
-        ),
-        (
-            UNRETURNED,
-            b"uk",
-            1,
-            "refused C12 context 0 at 0xffffffff81000003\n",
-        ),
-        (
-            UNDECODABLE,
-            b"u",
-            1,
-            "refused C5 context 0 at 0xffffffff81000001\n",
-        ),
-        (
-            ENDLESS,
-            b"",
-            1,
-            "refused C5 context 0 at 0xffffffff81000001\n",
-        ),
-        (PAST, b"u", 3, "bad image 6 SegmentOut at 8\n"),
-        (b"ENTRYRAX", b"u", 3, "bad image 1 BadMagic at 7\n"),
-        (ACCEPTED, b"uuxku", 5, "bad certificate 6 Range at 2\n"),
-        (UNDECODABLE, b"\n", 5, "bad certificate 6 Range at 0\n"),
-    ];
-    for (image, letters, code, line) in cases {
+    for (image, letters, code, line) in LINES {
         let held = [
             Held {
                 name: "i",
@@ -119,7 +121,7 @@ fn each_image_and_its_letters_get_their_line(rt: HostRuntime) -> Result<(), Fail
         ];
         let words = ["check", "i", "c", "l"];
         let end = ended(rt.alloc(), &words, &held, &[], &[]).expect(&rt, "memory");
-        assert!(rt; end.code == code, "{line}");
+        assert!(rt; end.code == *code, "{line}");
         assert!(rt; end.written.as_slice() == line.as_bytes(), "{line}");
     }
     Ok(())

@@ -75,64 +75,52 @@ fn stands_by_symbol_bits_and_place(rt: HostRuntime) {
     }
 }
 
-#[test]
-fn order_join_and_made_values(rt: HostRuntime) -> Result<(), std::alloc::AllocError> {
-    let base = Value {
-        sym: Sym::Base(-8),
+fn based(offset: i64, stacks: u32) -> Value {
+    Value {
+        sym: Sym::Base(offset),
         bits: Value::top().bits,
-        stacks: 1,
-    };
-    let other = Value {
-        sym: Sym::Base(0),
-        bits: Value::top().bits,
-        stacks: 2,
-    };
-    assert_eq!(rt;
-        joined(&base, &other),
-        Value {
-            sym: Sym::Plain,
-            bits: base.bits,
-            stacks: 3
-        }
-    );
-    assert_eq!(rt; joined(&base, &base), base);
-    assert!(rt; base.leq(&base.plain()) && !base.plain().leq(&base) && !base.leq(&other));
-    assert_eq!(rt;
-        base.plain(),
-        Value {
-            sym: Sym::Plain,
-            bits: base.bits,
-            stacks: 1
-        }
-    );
-    assert!(rt; Value::top().is_top() && !base.plain().is_top());
+        stacks,
+    }
+}
 
+fn plain(bits: Bits, stacks: u32) -> Value {
+    Value {
+        sym: Sym::Plain,
+        bits,
+        stacks,
+    }
+}
+
+#[test]
+fn values_of_two_symbols_join_to_a_plain_one(rt: HostRuntime) {
+    let base = based(-8, 1);
+    let other = based(0, 2);
+    assert_eq!(rt; joined(&base, &other), plain(base.bits, 3));
+    assert_eq!(rt; joined(&base, &base), base);
+    assert_eq!(rt; base.plain(), plain(base.bits, 1));
+    assert!(rt; base.leq(&base.plain()) && !base.plain().leq(&base) && !base.leq(&other));
+    assert!(rt; Value::top().is_top() && !base.plain().is_top());
+}
+
+#[test]
+fn made_values_know_their_bits_and_stacks(rt: HostRuntime) {
     let five = Value::constant(5, Some(3));
-    assert_eq!(rt;
-        five,
-        Value {
-            sym: Sym::Plain,
-            bits: Bits::of(5),
-            stacks: 8
-        }
-    );
+    assert_eq!(rt; five, plain(Bits::of(5), 8));
     assert_eq!(rt;
         Value::derived(&Bits::of(5), None),
         Value::constant(5, None)
     );
     let open = joined(&Bits::of(0x1_0000_0005), &Bits::of(0x3_0000_0007));
-    assert_eq!(rt;
-        Value::derived(&open, Some(3)),
-        Value {
-            sym: Sym::Plain,
-            bits: open,
-            stacks: 0x1_FFFF
-        }
-    );
+    assert_eq!(rt; Value::derived(&open, Some(3)), plain(open, 0x1_FFFF));
     let low = Value::derived(&open, None).low(None);
     assert_eq!(rt; low.bits, joined(&Bits::of(5), &Bits::of(7)));
     assert_eq!(rt; Value::constant(0x2_0000_0005, None).low(Some(3)), five);
+}
 
+#[test]
+fn pairs_rows_and_lists_join_part_by_part(rt: HostRuntime) -> Result<(), std::alloc::AllocError> {
+    let base = based(-8, 1);
+    let five = Value::constant(5, Some(3));
     let mut pair = Both {
         first: Bits::of(5),
         second: five,
@@ -146,18 +134,11 @@ fn order_join_and_made_values(rt: HostRuntime) -> Result<(), std::alloc::AllocEr
         items: vec![in rt.alloc(); base, five]?,
     };
     row.join(&Row {
-        items: vec![in rt.alloc(); base, other]?,
+        items: vec![in rt.alloc(); base, based(0, 2)]?,
     });
     assert_eq!(rt; row.items[0], base);
     let mut total = five;
     join_all(&mut total, &row.items);
-    assert_eq!(rt;
-        total,
-        Value {
-            sym: Sym::Plain,
-            bits: Value::top().bits,
-            stacks: 11
-        }
-    );
+    assert_eq!(rt; total, plain(Value::top().bits, 11));
     Ok(())
 }
