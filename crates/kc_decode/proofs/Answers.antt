@@ -1,7 +1,7 @@
 -- What the decoder answers, by the grammar.
 use Rattle.std.proofs.Common.{◌≡◌, ℕ, suc, ◌+◌, ◌-◌, ◌%◌, ◌^◌, ◌<◌, ◌≤◌, Bool, true, false, cond, eqb, ltb, leb, nat_lt, None, lit<, List, [], ◌∷◌, ◌++◌, length, get_or, take, drop, Result, Ok, Err, inl, inr, refl, sym, ap, subst, ◌∙◌, arith}
 use Rattle.std.proofs.lemmas.List.{append-nil, length-append, take_at, take-append-drop, length-take, length-drop}
-use Rattle.std.proofs.lemmas.Bool.{ltb-false, le-ltb, eqb-true, eq-eqb, le-leb, leb-true}
+use Rattle.std.proofs.lemmas.Bool.{ltb-false, le-ltb, eq-eqb, le-leb, leb-true, ne_eqb}
 use Rattle.std.specs.Prelude.{IfOk, ◌↔◌}
 use Rattle.std.specs.Int.{w64, cast_unsigned}
 use Rattle.kc_insn.specs.declared.insn.Insn.{Insn}
@@ -56,13 +56,6 @@ fails e = Err e
 
 abbrev answers : DecodeFault → Result (Insn × ℕ) DecodeFault
 answers e = Err e
-
-not-at : (a b : ℕ) → (a ≡ b → ⊥) → (t : Bool) → eqb a b ≡ t → t ≡ false
-not-at a b n false q = refl
-not-at a b n true q = absurd (n (eqb-true a b q))
-
-not-eq : (a b : ℕ) → (a ≡ b → ⊥) → eqb a b ≡ false
-not-eq a b n = not-at a b n (eqb a b) refl
 
 fails-is : (e f : DecodeFault) → fails e ≡ fails f → e ≡ f
 fails-is e f h = cc
@@ -202,7 +195,7 @@ fits-true (b ∷ bs) more d h small = go (first-of b (bs ++ more) d h)
     go (f3_first e k) = let t = ap (λ (n : ℕ). eqb n 0x66) e in let u = ap (λ (n : ℕ). eqb n 0x2E) e in rw (t, u) refl
     go (pad_first e k) = let t = eq-eqb b 0x66 e in let l = least-behind_66.lower bs more d k in rw t (le-leb (1 + least_66 bs) 15 (omega (arith, l)))
     go (cs_first e k) = let t = ap (λ (n : ℕ). eqb n 0x66) e in let u = eq-eqb b 0x2E e in let l = least-nop.lower bs more d k in rw (t, u) (le-leb (1 + least_nop bs) 15 (omega (arith, l)))
-    go (plain_first n1 n2 n3 n4 k) = let t = not-eq b 0x66 n3 in let u = not-eq b 0x2E n4 in rw (t, u) refl
+    go (plain_first n1 n2 n3 n4 k) = let t = ne_eqb b 0x66 n3 in let u = ne_eqb b 0x2E n4 in rw (t, u) refl
 
 -- and where it holds of bytes that aren't whole, some instruction ends in time
 fits-some : (bs : List ℕ) → AreBytes bs → draft_at bs ≡ Err Short → fits bs ≡ true → (more : List ℕ) × (d : Draft) × (0 < length more) × Spelled (bs ++ more) d × (length (bs ++ more) ≤ 15)

@@ -1,6 +1,6 @@
 -- What stands behind F3 is read exactly as the grammar has it.
 use Rattle.std.proofs.Common.{◌≡◌, ℕ, ◌<◌, Bool, true, false, cond, not, ◌&&◌, ◌||◌, eqb, List, [], ◌∷◌, ◌++◌, Option, Some, None, Result, Err, refl, sym, ap, subst, ◌∙◌, arith, lit<}
-use Rattle.std.proofs.lemmas.Bool.{eqb-true, eqb-false}
+use Rattle.std.proofs.lemmas.Bool.{eqb-true, eqb-false, and_parts}
 use Rattle.kc_reading.specs.Reading.{◌>>=◌, Exact, ByteThen, byte_at}
 use Rattle.kc_reading.proofs.Readers.{exact-none, exact-words, exact-byte, exact-cases}
 use Rattle.kc_insn.specs.declared.insn.Insn.{Insn}
@@ -14,7 +14,6 @@ use Rattle.kc_insn.specs.Spells.{has_rm, has_reg, has_register, has_width, needs
 use Rattle.kc_decode.specs.declared.fault.DecodeFault.{DecodeFault}
 use Rattle.kc_decode.specs.declared.fault.DecodeFault.TheVariants.{Short, Unknown}
 use Rattle.kc_decode.specs.Reading.{is_short, row_at, is_rex, rex_of, f3_row_at, f3_escape_at, f3_at}
-use Rattle.kc_decode.proofs.Tails.{and-left, and-right}
 use Rattle.kc_decode.proofs.Rows.{f3-apart, f3-live, f3-forms, rex-bytes, rex_byte}
 use Rattle.kc_decode.proofs.Drafts.{RowTail, exact-row, heads, rex-is}
 
@@ -86,7 +85,7 @@ or-false true h p q = let clash : false ≡ true = sym (ap not p) ∙ q in absur
 f3-w : (w n hw g b r x : Bool) → cond w (hw || n) (not n) ≡ true → (n || (not hw && not g)) ≡ true → (not b || g) ≡ true → (w || r || x || b || g) ≡ true → r ≡ false → x ≡ false → w ≡ true
 f3-w true n hw g b r x p1 p2 p3 p4 p5 p6 = refl
 f3-w false true hw g b r x p1 p2 p3 p4 p5 p6 = absurd cc
-f3-w false false hw true b r x p1 p2 p3 p4 p5 p6 = let clash : not true ≡ true = and-right (not hw) (not true) p2 in absurd cc
+f3-w false false hw true b r x p1 p2 p3 p4 p5 p6 = let clash : not true ≡ true = (and_parts (not hw) (not true) p2).1 in absurd cc
 f3-w false false hw false true r x p1 p2 p3 p4 p5 p6 = absurd cc
 f3-w false false hw false false true x p1 p2 p3 p4 p5 p6 = absurd cc
 f3-w false false hw false false false true p1 p2 p3 p4 p5 p6 = absurd cc
@@ -102,13 +101,13 @@ f3-rex op form rex look fits =
     let f : Bool = rex.w || rex.r || rex.x || rex.b || has_register form in
     let rest : Bool = needs_w form || (not (has_width form) && not (has_register form)) in
     let all : ((((a && b) && c) && e) && f) ≡ true = fits in
-    let p3 = and-left (((a && b) && c) && e) f all in
-    let p2 = and-left ((a && b) && c) e p3 in
-    let p1 = and-left (a && b) c p2 in
-    let r0 : rex.r ≡ false = or-false rex.r (has_reg form) (and-right a b p1) (and-left (not (has_reg form)) (not (has_rm form) && rest) k) in
-    let k1 = and-right (not (has_reg form)) (not (has_rm form) && rest) k in
-    let x0 : rex.x ≡ false = or-false rex.x (has_rm form) (and-right (a && b) c p2) (and-left (not (has_rm form)) rest k1) in
-    let w1 : rex.w ≡ true = f3-w rex.w (needs_w form) (has_width form) (has_register form) rex.b rex.r rex.x (and-left a b p1) (and-right (not (has_rm form)) rest k1) (and-right ((a && b) && c) e p3) (and-right (((a && b) && c) && e) f all) r0 x0 in
+    let p3 = (and_parts (((a && b) && c) && e) f all).0 in
+    let p2 = (and_parts ((a && b) && c) e p3).0 in
+    let p1 = (and_parts (a && b) c p2).0 in
+    let r0 : rex.r ≡ false = or-false rex.r (has_reg form) (and_parts a b p1).1 (and_parts (not (has_reg form)) (not (has_rm form) && rest) k).0 in
+    let k1 = (and_parts (not (has_reg form)) (not (has_rm form) && rest) k).1 in
+    let x0 : rex.x ≡ false = or-false rex.x (has_rm form) (and_parts (a && b) c p2).1 (and_parts (not (has_rm form)) rest k1).0 in
+    let w1 : rex.w ≡ true = f3-w rex.w (needs_w form) (has_width form) (has_register form) rex.b rex.r rex.x (and_parts a b p1).0 (and_parts (not (has_rm form)) rest k1).1 (and_parts ((a && b) && c) e p3).1 (and_parts (((a && b) && c) && e) f all).1 r0 x0 in
     ap (λ (t : Bool). t && (not rex.r && not rex.x)) w1 ∙ ap (λ (t : Bool). not t && not rex.x) r0 ∙ ap not x0
 
 F3Escape : Rex → List ℕ → Draft → Type 0

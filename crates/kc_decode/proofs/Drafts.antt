@@ -1,6 +1,6 @@
 -- REX and the opcode are read exactly as the grammar has them.
 use Rattle.std.proofs.Common.{◌≡◌, ℕ, ◌+◌, ◌*◌, ◌<◌, ◌≤◌, Bool, true, false, cond, not, ◌&&◌, ◌||◌, eqb, ltb, leb, List, [], ◌∷◌, ◌++◌, replicate, Option, Some, None, Err, ◌⊎◌, inl, inr, refl, sym, ap, subst, ◌∙◌, arith, lit<}
-use Rattle.std.proofs.lemmas.Bool.{eqb-true, eqb-false, ltb-true, leb-true}
+use Rattle.std.proofs.lemmas.Bool.{eqb-true, eqb-false, ltb-true, leb-true, and_parts}
 use Rattle.kc_reading.specs.Reading.{◌>>=◌, Exact, ByteThen, byte_at}
 use Rattle.kc_reading.proofs.Readers.{exact-none, exact-words, exact-byte, exact-cases}
 use Rattle.kc_insn.specs.declared.insn.Insn.TheVariants as insn
@@ -13,7 +13,7 @@ use Rattle.kc_insn.specs.Spells.{has_rm, has_reg, has_register, has_width, needs
 use Rattle.kc_decode.specs.declared.fault.DecodeFault.TheVariants.{Short, Unknown}
 use Rattle.kc_decode.specs.Reading.{is_short, tail_at, row_at, opcode_at, is_rex, rex_of, plain_at}
 use Rattle.kc_decode.proofs.Operands.{zero_number, IsNumber-zeros}
-use Rattle.kc_decode.proofs.Tails.{is_live, exact-tail, zero_mem, zero-operand, and-left, and-right}
+use Rattle.kc_decode.proofs.Tails.{is_live, exact-tail, zero_mem, zero-operand}
 use Rattle.kc_decode.proofs.Rows.{Apart, one-apart, two-apart, one-live, two-live, two-no_reg, escape-no_row, mov-row, bit-row, mov_form, mov-permits, bit-permits, rex-bytes, rex_byte, rex-back}
 
 -- ---- a row of a table
@@ -55,8 +55,8 @@ two-r op form gs (Some rex) look fits =
     let c : Bool = not rex.x || has_rm form in
     let e : Bool = not rex.b || has_register form in
     let f : Bool = rex.w || rex.r || rex.x || rex.b || has_register form in
-    let all : ((((a && b) && c) && e) && f) ≡ true = and-right _ (permits_rex form (Some rex)) fits in
-    let part : b ≡ true = and-right a b (and-left (a && b) c (and-left ((a && b) && c) e (and-left (((a && b) && c) && e) f all))) in
+    let all : ((((a && b) && c) && e) && f) ≡ true = (and_parts _ (permits_rex form (Some rex)) fits).1 in
+    let part : b ≡ true = (and_parts a b (and_parts (a && b) c (and_parts ((a && b) && c) e (and_parts (((a && b) && c) && e) f all).0).0).0).1 in
     no-r rex.r (has_reg form) part (two-no_reg op form look)
   where
     no-r : (r h : Bool) → (not r || h) ≡ true → not h ≡ true → r ≡ false
@@ -113,8 +113,8 @@ apart-no_rex op a = go (is_rex op) refl
     go : (t : Bool) → is_rex op ≡ t → t ≡ false
     go false e = refl
     go true e =
-        let low : 64 ≤ op = leb-true 64 op (and-left (leb 64 op) (ltb op 80) e) in
-        let high : op < 80 = ltb-true op 80 (and-right (leb 64 op) (ltb op 80) e) in
+        let low : 64 ≤ op = leb-true 64 op (and_parts (leb 64 op) (ltb op 80) e).0 in
+        let high : op < 80 = ltb-true op 80 (and_parts (leb 64 op) (ltb op 80) e).1 in
         absurd (elim a.0 [ inl l ↦ omega arith | inr r ↦ omega arith ])
 
 -- what stands behind the first byte b

@@ -1,6 +1,6 @@
 -- The least number of bytes of a padded NOP that begins so.
 use Rattle.std.proofs.Common.{◌≡◌, ℕ, zero, suc, ◌+◌, ◌*◌, ◌<◌, ◌≤◌, Bool, true, false, cond, eqb, List, [], ◌∷◌, ◌++◌, length, replicate, Option, Some, None, ◌⊎◌, inl, inr, refl, sym, ap, subst, ◌∙◌, arith, lit<}
-use Rattle.std.proofs.lemmas.Bool.{eqb-true, eq-eqb}
+use Rattle.std.proofs.lemmas.Bool.{eq-eqb, ne_eqb}
 use Rattle.std.proofs.lemmas.List.{length-replicate, length-append}
 use Rattle.kc_reading.specs.Reading.{ByteThen}
 use Rattle.kc_insn.specs.declared.insn.Insn.TheVariants as insn
@@ -79,21 +79,14 @@ module _ (gs : Bool) (rex : Option Rex) where
         | inl h ↦ let t = eq-eqb o.mode 3 h.0 in rw t (omega arith)
         | inr k ↦ elim k [
           | inl h ↦
-              let t = not-eq o.mode 3 (λ q. omega (arith, h.1)) in let u = not-eq o.rm 4 h.0 in
+              let t = ne_eqb o.mode 3 (λ q. omega (arith, h.1)) in let u = ne_eqb o.rm 4 h.0 in
               rw (t, u) (omega (arith, ap (λ (l : List ℕ). length l) e.1, h.2))
           | inr h ↦
-              let t = not-eq o.mode 3 (λ q. omega (arith, h.1)) in let u = eq-eqb o.rm 4 h.0 in
+              let t = ne_eqb o.mode 3 (λ q. omega (arith, h.1)) in let u = eq-eqb o.rm 4 h.0 in
               rw (t, u) (sib-lower o.mode bs more h.2.0 h.2.1 (e.1 ∙ h.2.2) h.2.3)
         ]
       ]))
     where
-      not-at : (a b : ℕ) → (a ≡ b → ⊥) → (t : Bool) → eqb a b ≡ t → t ≡ false
-      not-at a b n false q = refl
-      not-at a b n true q = absurd (n (eqb-true a b q))
-
-      not-eq : (a b : ℕ) → (a ≡ b → ⊥) → eqb a b ≡ false
-      not-eq a b n = not-at a b n (eqb a b) refl
-
       sib-lower : (mode : ℕ) (bs more : List ℕ) (s : ℕ) (rest : List ℕ) → bs ++ more ≡ s ∷ rest → length rest ≡ disp_bytes mode (rm_field s) → 2 + least_sib mode bs ≤ suc (length (bs ++ more))
       sib-lower mode [] more s rest q n = let small = disp-zero mode (rm_field s) in omega (arith, ap (λ (l : List ℕ). length l) q)
       sib-lower mode (c ∷ bs) more s rest q n =
@@ -133,21 +126,14 @@ module _ (gs : Bool) (rex : Option Rex) where
         | inl h ↦ let t = eq-eqb o.mode 3 h.0 in rw t (more, p, o, omega (arith, ap (λ (l : List ℕ). length l) e.1, h.1))
         | inr k ↦ elim k [
           | inl h ↦
-              let t = not-eq o.mode 3 (λ q. omega (arith, h.1)) in let u = not-eq o.rm 4 h.0 in
+              let t = ne_eqb o.mode 3 (λ q. omega (arith, h.1)) in let u = ne_eqb o.rm 4 h.0 in
               rw (t, u) (more, p, o, omega (arith, ap (λ (l : List ℕ). length l) e.1, h.2))
           | inr h ↦
-              let t = not-eq o.mode 3 (λ q. omega (arith, h.1)) in let u = eq-eqb o.rm 4 h.0 in
+              let t = ne_eqb o.mode 3 (λ q. omega (arith, h.1)) in let u = eq-eqb o.rm 4 h.0 in
               rw (t, u) (sib-reached bs h.2.0 h.2.1 (e.1 ∙ h.2.2) h.2.3 h.0 h.1 o)
         ]
       ]))
     where
-      not-at : (a b : ℕ) → (a ≡ b → ⊥) → (t : Bool) → eqb a b ≡ t → t ≡ false
-      not-at a b n false q = refl
-      not-at a b n true q = absurd (n (eqb-true a b q))
-
-      not-eq : (a b : ℕ) → (a ≡ b → ⊥) → eqb a b ≡ false
-      not-eq a b n = not-at a b n (eqb a b) refl
-
       sib-reached : (l : List ℕ) (s : ℕ) (rest : List ℕ) → l ++ more ≡ s ∷ rest → length rest ≡ disp_bytes o.mode (rm_field s) → o.rm ≡ 4 → o.mode < 3 → Operand0 (m ∷ (l ++ more)) p
           → (end : List ℕ) × (q : Place) × Operand0 (m ∷ (l ++ end)) q × (suc (length (l ++ end)) ≡ 2 + least_sib o.mode l)
       sib-reached [] s rest q n four below whole_operand = (

@@ -1,6 +1,6 @@
 -- Padding prefixes and the long NOP behind them are read exactly as the grammar has them.
 use Rattle.std.proofs.Common.{◌≡◌, ℕ, zero, suc, ◌+◌, ◌*◌, ◌<◌, ◌≤◌, Bool, true, false, cond, ◌||◌, eqb, ltb, leb, List, [], ◌∷◌, ◌++◌, length, replicate, Option, Some, None, Ok, Err, ◌⊎◌, inl, inr, refl, sym, ap, subst, ◌∙◌, arith, lit<}
-use Rattle.std.proofs.lemmas.Bool.{eqb-true, eqb-false, leb-true}
+use Rattle.std.proofs.lemmas.Bool.{eqb-true, eqb-false, leb-true, and_parts}
 use Rattle.kc_reading.specs.Reading.{AreBytes, Exact, ByteThen}
 use Rattle.kc_reading.proofs.Readers.{exact-none, exact-words, exact-byte, exact-cases, ok_is}
 use Rattle.kc_insn.specs.declared.insn.Insn.TheVariants as insn
@@ -12,8 +12,9 @@ use Rattle.kc_insn.specs.Spells.{permits, permits_rex, Draft, whole, IsTail, cs_
 use Rattle.kc_decode.specs.declared.fault.DecodeFault.{DecodeFault}
 use Rattle.kc_decode.specs.declared.fault.DecodeFault.TheVariants.{Short, Unknown}
 use Rattle.kc_decode.specs.Reading.{is_short, tail_at, is_rex, rex_of, nop_tail_at, nop_escape_at, nop_at, behind_2e_at, padded_at, behind_66_at}
-use Rattle.kc_decode.proofs.Tails.{exact-rm_unused, zero_mem, zero-operand, and-left}
-use Rattle.kc_decode.proofs.Rows.{chosen, rex-bytes, rex_byte}
+use Rattle.kc_decode.proofs.Tails.{exact-rm_unused, zero_mem, zero-operand}
+use Rattle.kc_insn.proofs.Encoded.{chosen}
+use Rattle.kc_decode.proofs.Rows.{rex-bytes, rex_byte}
 use Rattle.kc_decode.proofs.Drafts.{heads, rex-is}
 use Rattle.kc_decode.proofs.BehindF3.{exact-wanted}
 
@@ -103,7 +104,7 @@ nop-first b bs d (nop None rex_bytes tail eq is fits t) =
 nop-first b bs d (nop (Some rex) rex_bytes tail eq is fits t) =
     let e = heads b (rex_byte rex) bs (0x0F ∷ 0x1F ∷ tail) (eq ∙ ap (λ (x : List ℕ). x ++ 0x0F ∷ 0x1F ∷ tail) is) in
     let k = rex-is b rex e.0 in
-    inr (leb-true 64 b (and-left (leb 64 b) (ltb b 80) k.0), k.2)
+    inr (leb-true 64 b (and_parts (leb 64 b) (ltb b 80) k.0).0, k.2)
 
 pub nop-empty : (d : Draft) → NopSpelled [] d → ⊥
 nop-empty d (nop None rex_bytes tail eq is fits t) = let e : [] ≡ 0x0F ∷ 0x1F ∷ tail = eq ∙ ap (λ (x : List ℕ). x ++ 0x0F ∷ 0x1F ∷ tail) is in cc

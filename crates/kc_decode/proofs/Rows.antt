@@ -1,6 +1,6 @@
 -- Prefixes and opcodes are read exactly as the grammar has them.
-use Rattle.std.proofs.Common.{◌≡◌, ℕ, zero, suc, ◌+◌, ◌-◌, ◌*◌, ◌/◌, ◌%◌, ◌<◌, ◌≤◌, Bool, true, false, cond, not, ◌&&◌, ◌||◌, eqb, ltb, leb, List, [], ◌∷◌, Option, Some, None, ◌⊎◌, inl, inr, refl, sym, ap, subst, ◌∙◌, arith, lit<, mul-zero, mul-one}
-use Rattle.std.proofs.lemmas.Bool.{eqb-true, ltb-true, leb-true}
+use Rattle.std.proofs.Common.{◌≡◌, ℕ, zero, suc, ◌+◌, ◌-◌, ◌*◌, ◌/◌, ◌%◌, ◌<◌, ◌≤◌, Bool, true, false, not, ◌&&◌, ◌||◌, eqb, ltb, leb, List, [], ◌∷◌, Option, Some, None, ◌⊎◌, inl, inr, refl, sym, ap, subst, ◌∙◌, arith, lit<, mul-zero, mul-one}
+use Rattle.std.proofs.lemmas.Bool.{eqb-true, ltb-true, leb-true, and_parts, or_cases}
 use Rattle.kc_insn.specs.declared.insn.Insn.TheVariants as insn
 use Rattle.kc_insn.specs.declared.insn.Source.TheVariants as source
 use Rattle.kc_insn.specs.declared.rex.Rex.{Rex}
@@ -8,13 +8,8 @@ use Rattle.kc_insn.specs.Fields.{worth, IsRex, r_bit}
 use Rattle.kc_insn.specs.Table.{Form, rm_reg, rm_bit, Row, row, rows, lookup, one_byte, two_byte, two_byte_f3, bit_of}
 use Rattle.kc_insn.specs.Spells.{has_rm, has_reg, has_register, has_width, needs_w, permits, permits_rex}
 use Rattle.kc_decode.specs.Reading.{is_rex, rex_of}
-use Rattle.kc_decode.proofs.Tails.{is_live, and-left, and-right}
-
--- ---- a test with its outcome
-
-pub chosen : {A : Type 0} (b : Bool) (x y z : A) → cond b x y ≡ z → ((b ≡ true) × (x ≡ z)) ⊎ ((b ≡ false) × (y ≡ z))
-chosen true x y z e = inl (refl, e)
-chosen false x y z e = inr (refl, e)
+use Rattle.kc_insn.proofs.Encoded.{chosen}
+use Rattle.kc_decode.proofs.Tails.{is_live}
 
 -- ---- the rows of a table
 
@@ -43,25 +38,21 @@ keys_apart [] = true
 keys_apart (row key form ∷ rest) = (ltb key 64 || leb 80 key) && (ltb key 256 && keys_apart rest)
 keys_apart (rows first count form ∷ rest) = (leb (first + count) 64 || leb 80 first) && (leb (first + count) 256 && keys_apart rest)
 
-pub or-cases : (a b : Bool) → (a || b) ≡ true → (a ≡ true) ⊎ (b ≡ true)
-or-cases true b e = inl refl
-or-cases false b e = inr e
-
 abbrev pub Apart : ℕ → Type 0
 Apart op = ((op < 64) ⊎ (80 ≤ op)) × (op < 256)
 
 pub row-apart : (key : ℕ) (rest : Bool) → ((ltb key 64 || leb 80 key) && (ltb key 256 && rest)) ≡ true → Apart key
 row-apart key rest h =
-    let a = and-left (ltb key 64 || leb 80 key) (ltb key 256 && rest) h in
-    let b = and-left (ltb key 256) rest (and-right (ltb key 64 || leb 80 key) (ltb key 256 && rest) h) in
-    (elim (or-cases (ltb key 64) (leb 80 key) a) [ inl l ↦ inl (ltb-true key 64 l) | inr r ↦ inr (leb-true 80 key r) ], ltb-true key 256 b)
+    let a = (and_parts (ltb key 64 || leb 80 key) (ltb key 256 && rest) h).0 in
+    let b = (and_parts (ltb key 256) rest (and_parts (ltb key 64 || leb 80 key) (ltb key 256 && rest) h).1).0 in
+    (elim (or_cases (ltb key 64) (leb 80 key) a) [ inl l ↦ inl (ltb-true key 64 l) | inr r ↦ inr (leb-true 80 key r) ], ltb-true key 256 b)
 
 pub rows-apart : (first count op : ℕ) (rest : Bool) → ((leb (first + count) 64 || leb 80 first) && (leb (first + count) 256 && rest)) ≡ true → first ≤ op → op < first + count → Apart op
 rows-apart first count op rest h ge lt =
-    let a = and-left (leb (first + count) 64 || leb 80 first) (leb (first + count) 256 && rest) h in
-    let b = and-left (leb (first + count) 256) rest (and-right (leb (first + count) 64 || leb 80 first) (leb (first + count) 256 && rest) h) in
+    let a = (and_parts (leb (first + count) 64 || leb 80 first) (leb (first + count) 256 && rest) h).0 in
+    let b = (and_parts (leb (first + count) 256) rest (and_parts (leb (first + count) 64 || leb 80 first) (leb (first + count) 256 && rest) h).1).0 in
     let top : first + count ≤ 256 = leb-true (first + count) 256 b in (
-      elim (or-cases (leb (first + count) 64) (leb 80 first) a) [
+      elim (or_cases (leb (first + count) 64) (leb 80 first) a) [
         | inl l ↦ let below : first + count ≤ 64 = leb-true (first + count) 64 l in inl (omega arith)
         | inr r ↦ let above : 80 ≤ first = leb-true 80 first r in inr (omega arith)
       ],
@@ -73,12 +64,12 @@ lookup-apart [] op form all e = absurd cc
 lookup-apart (row key f ∷ rest) op form all e =
     elim (chosen (eqb op key) (Some f) (lookup op rest) (Some form) e) [
       | inl h ↦ subst Apart (sym (eqb-true op key h.0)) (row-apart key (keys_apart rest) all)
-      | inr h ↦ lookup-apart rest op form (and-right (ltb key 256) (keys_apart rest) (and-right (ltb key 64 || leb 80 key) (ltb key 256 && keys_apart rest) all)) h.1
+      | inr h ↦ lookup-apart rest op form (and_parts (ltb key 256) (keys_apart rest) (and_parts (ltb key 64 || leb 80 key) (ltb key 256 && keys_apart rest) all).1).1 h.1
     ]
 lookup-apart (rows first count f ∷ rest) op form all e =
     elim (chosen (leb first op && ltb op (first + count)) (Some (f (op - first))) (lookup op rest) (Some form) e) [
-      | inl h ↦ rows-apart first count op (keys_apart rest) all (leb-true first op (and-left (leb first op) (ltb op (first + count)) h.0)) (ltb-true op (first + count) (and-right (leb first op) (ltb op (first + count)) h.0))
-      | inr h ↦ lookup-apart rest op form (and-right (leb (first + count) 256) (keys_apart rest) (and-right (leb (first + count) 64 || leb 80 first) (leb (first + count) 256 && keys_apart rest) all)) h.1
+      | inl h ↦ rows-apart first count op (keys_apart rest) all (leb-true first op (and_parts (leb first op) (ltb op (first + count)) h.0).0) (ltb-true op (first + count) (and_parts (leb first op) (ltb op (first + count)) h.0).1)
+      | inr h ↦ lookup-apart rest op form (and_parts (leb (first + count) 256) (keys_apart rest) (and_parts (leb (first + count) 64 || leb 80 first) (leb (first + count) 256 && keys_apart rest) all).1).1 h.1
     ]
 
 pub one-apart : (op : ℕ) (form : Form) → lookup op one_byte ≡ Some form → Apart op
@@ -200,8 +191,8 @@ worth-bit (suc (suc n)) k h = absurd (omega arith)
 
 pub rex-bytes : (b : ℕ) → is_rex b ≡ true → IsRex (b ∷ []) (Some (rex_of b))
 rex-bytes b h =
-    let low : 64 ≤ b = leb-true 64 b (and-left (leb 64 b) (ltb b 80) h) in
-    let high : b < 80 = ltb-true b 80 (and-right (leb 64 b) (ltb b 80) h) in
+    let low : 64 ≤ b = leb-true 64 b (and_parts (leb 64 b) (ltb b 80) h).0 in
+    let high : b < 80 = ltb-true b 80 (and_parts (leb 64 b) (ltb b 80) h).1 in
     let w = worth-bit (b / 8 % 2) 8 (omega arith) in
     let r = worth-bit (b / 4 % 2) 4 (omega arith) in
     let x = worth-bit (b / 2 % 2) 2 (omega arith) in

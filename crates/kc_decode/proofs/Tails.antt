@@ -2,7 +2,7 @@
 use Rattle.std.proofs.Common.{◌≡◌, ℕ, ◌+◌, ◌*◌, ◌<◌, Bool, true, false, cond, not, ◌&&◌, ◌||◌, eqb, ltb, List, [], ◌∷◌, ◌++◌, replicate, Option, Some, None, Result, Ok, Err, ℤ, pos, refl, sym, ap, subst, ◌∙◌, arith, lit<}
 use Rattle.std.specs.Prelude.{is_some, option_map}
 use Rattle.std.specs.Int.{w64, cast_signed}
-use Rattle.std.proofs.lemmas.Bool.{eqb-true, eq-eqb, ltb-true, lt-ltb}
+use Rattle.std.proofs.lemmas.Bool.{eqb-true, eq-eqb, ltb-true, lt-ltb, and_parts}
 use Rattle.std.proofs.lemmas.List.{append-nil}
 use Rattle.kc_words.specs.declared.width.Width.{Width}
 use Rattle.kc_words.specs.declared.width.Width.TheVariants.{Byte, Quad}
@@ -28,14 +28,6 @@ use Rattle.kc_decode.specs.Reading.{is_short, disp_at, takes_modrm, operand_at, 
 use Rattle.kc_decode.proofs.Operands.{exact-disp, exact-imm, exact-operand, Taken, SomeOperand, zero_number, IsNumber-zeros}
 
 -- ---- tests
-
-pub and-left : (a b : Bool) → (a && b) ≡ true → a ≡ true
-and-left true b e = refl
-and-left false b e = absurd cc
-
-pub and-right : (a b : Bool) → (a && b) ≡ true → b ≡ true
-and-right true b e = e
-and-right false b e = absurd cc
 
 some-is : {A : Type 0} (o : Option A) → is_some o ≡ true → (x : A) × (o ≡ Some x)
 some-is (Some x) e = (x, refl)
@@ -355,8 +347,8 @@ exact-rm_byte_imm gs rex =
     let b = h.4 in
     let o = h.3.0 in
     let same : h.2 ≡ b.1 = b.5 ∙ ap (λ (t : List ℕ). b.1 ++ t) b.4.0 ∙ append-nil b.1 in
-    let zero-reg : h.0.0 ≡ 0 = eqb-true h.0.0 0 (and-left (eqb h.0.0 0) (low_test gs rex o.mode o.rm) h.3.1) in
-    let low : IsLowByte rex h.0.1 = low-byte-to gs rex h.0.0 h.1 h.0.1 o (and-right (eqb h.0.0 0) (low_test gs rex o.mode o.rm) h.3.1) in
+    let zero-reg : h.0.0 ≡ 0 = eqb-true h.0.0 0 (and_parts (eqb h.0.0 0) (low_test gs rex o.mode o.rm) h.3.1).0 in
+    let low : IsLowByte rex h.0.1 = low-byte-to gs rex h.0.0 h.1 h.0.1 o (and_parts (eqb h.0.0 0) (low_test gs rex o.mode o.rm) h.3.1).1 in
     (h.0.1, h.1, h.2, b.0, h.5, subst (λ (k : ℕ). IsOperand gs rex k h.1 h.0.1) zero-reg o, low, subst (λ (t : List ℕ). S t b.0) (sym same) b.3, b.4.1))
     (λ bs d h.
     let taken : Taken gs rex rm_byte_imm h.1 (0, h.0) = (h.5, low-byte-back gs rex 0 h.1 h.0 h.5 h.6) in
@@ -370,7 +362,7 @@ or-case false b e n = refl
 
 module _ (form : Form) where
   no-gs : (gs : Bool) (rex : Option Rex) → permits form gs rex ≡ true → (has_access form ≡ false) → gs ≡ false
-  no-gs gs rex h none = or-case gs (has_access form) (and-left (not gs || has_access form) (permits_rex form rex) h) none
+  no-gs gs rex h none = or-case gs (has_access form) (and_parts (not gs || has_access form) (permits_rex form rex) h).0 none
 
   no-x : (gs : Bool) (rex : Option Rex) → permits form gs rex ≡ true → (has_rm form ≡ false) → x_bit rex ≡ false
   no-x gs None h none = refl
@@ -380,8 +372,8 @@ module _ (form : Form) where
       let c : Bool = not rex.x || has_rm form in
       let d : Bool = not rex.b || has_register form in
       let e : Bool = rex.w || rex.r || rex.x || rex.b || has_register form in
-      let all : ((((a && b) && c) && d) && e) ≡ true = and-right (not gs || has_access form) (permits_rex form (Some rex)) h in
-      or-case rex.x (has_rm form) (and-right (a && b) c (and-left ((a && b) && c) d (and-left (((a && b) && c) && d) e all))) none
+      let all : ((((a && b) && c) && d) && e) ≡ true = (and_parts (not gs || has_access form) (permits_rex form (Some rex)) h).1 in
+      or-case rex.x (has_rm form) (and_parts (a && b) c (and_parts ((a && b) && c) d (and_parts (((a && b) && c) && d) e all).0).0).1 none
 
 module _ (gs : Bool) (rex : Option Rex) (no_gs : gs ≡ false) (no_x : x_bit rex ≡ false) where
   abbrev register_operand : (form : Form) (n : ℕ) → n < 8 → takes_modrm form rex 3 n 0 ≡ true → SomeOperand gs rex form
@@ -397,11 +389,11 @@ module _ (gs : Bool) (rex : Option Rex) (form : Form) (select : ℕ → Option (
 
   not-memory : (n : ℕ) (bs : List ℕ) (m : Mem) → Taken gs rex form bs (n, place.Mem m) → ⊥
   not-memory n bs m h =
-      let three : eqb h.0.mode 3 ≡ true = and-left (eqb h.0.mode 3) (is_some (select n)) (sym (takes h.0.mode n h.0.rm) ∙ h.1) in
+      let three : eqb h.0.mode 3 ≡ true = (and_parts (eqb h.0.mode 3) (is_some (select n)) (sym (takes h.0.mode n h.0.rm) ∙ h.1)).0 in
       let clash : false ≡ true = sym (ap not three) ∙ in-memory gs rex n bs m h.0 in cc
 
   selected : (n : ℕ) (bs : List ℕ) (p : Place) → Taken gs rex form bs (n, p) → is_some (select n) ≡ true
-  selected n bs p h = and-right (eqb h.0.mode 3) (is_some (select n)) (sym (takes h.0.mode n h.0.rm) ∙ h.1)
+  selected n bs p h = (and_parts (eqb h.0.mode 3) (is_some (select n)) (sym (takes h.0.mode n h.0.rm) ∙ h.1)).1
 
   exact-register_of : (n : ℕ) (p : Place) (front : List ℕ) → Taken gs rex form front (n, p) → Exact is_short (register_of (n, p)) (RegisterTail (n, p))
   exact-register_of n (place.Mem m) front taken = absurd (not-memory n front m taken)

@@ -1,6 +1,6 @@
 -- A whole instruction is read exactly as the grammar has it, whatever the number of its bytes.
 use Rattle.std.proofs.Common.{◌≡◌, ℕ, zero, suc, ◌+◌, ◌*◌, ◌<◌, ◌≤◌, Bool, true, false, cond, eqb, ltb, leb, List, [], ◌∷◌, ◌++◌, replicate, Option, Some, None, inl, inr, refl, sym, ap, subst, ◌∙◌, arith, lit<}
-use Rattle.std.proofs.lemmas.Bool.{eqb-true, eqb-false, leb-true}
+use Rattle.std.proofs.lemmas.Bool.{eqb-true, eqb-false, leb-true, and_parts}
 use Rattle.kc_reading.specs.Reading.{Exact, ByteThen}
 use Rattle.kc_reading.proofs.Readers.{exact-words, exact-byte, exact-cases}
 use Rattle.kc_insn.specs.declared.rex.Rex.{Rex}
@@ -9,7 +9,6 @@ use Rattle.kc_insn.specs.Table.{Form, lookup, one_byte, two_byte}
 use Rattle.kc_insn.specs.Spells.{permits, Draft, IsTail, cs_bytes, Spelled, in_one_byte, in_two_bytes, behind_f3, short_nop, long_nop}
 use Rattle.kc_decode.specs.declared.fault.DecodeFault.TheVariants.{Short}
 use Rattle.kc_decode.specs.Reading.{is_short, plain_at, f3_at, behind_2e_at, behind_66_at, behind_65_at, draft_at}
-use Rattle.kc_decode.proofs.Tails.{and-left}
 use Rattle.kc_decode.proofs.Rows.{one-apart, gs-no_row, f3-no_row, pad-no_row, cs-no_row, rex_byte}
 use Rattle.kc_decode.proofs.Drafts.{Opened, one, two, heads, rex-is, exact-plain, mov-tail}
 use Rattle.kc_decode.proofs.BehindF3.{F3Spelled, f3, exact-f3}
@@ -54,7 +53,7 @@ no-row key op form none look e = let clash : None ≡ Some form = sym none ∙ a
 
 -- REX is from 40 to 4F
 rex-range : (b : ℕ) (rex : Rex) → b ≡ rex_byte rex → (64 ≤ b) × (b < 80)
-rex-range b rex e = let k = rex-is b rex e in (leb-true 64 b (and-left (leb 64 b) (ltb b 80) k.0), k.2)
+rex-range b rex e = let k = rex-is b rex e in (leb-true 64 b (and_parts (leb 64 b) (ltb b 80) k.0).0, k.2)
 
 first-one : (b : ℕ) (bs : List ℕ) (d : Draft) (rex : Option Rex) (rex_bytes : List ℕ) (op : ℕ) (form : Form) (tail : List ℕ) → b ∷ bs ≡ rex_bytes ++ op ∷ tail
     → IsRex rex_bytes rex → lookup op one_byte ≡ Some form → permits form false rex ≡ true → IsTail form false rex tail d → First b bs d

@@ -1,8 +1,8 @@
 -- The numbers in the chosen bytes, as the grammar reads them.
-use Rattle.std.proofs.Common.{◌≡◌, ℕ, ◌+◌, ◌-◌, ◌%◌, ◌^◌, ◌<◌, Bool, true, false, ◌&&◌, ltb, leb, [], ◌∷◌, ℤ, pos, negsuc, refl, sym, ap, ◌∙◌, arith}
+use Rattle.std.proofs.Common.{◌≡◌, ℕ, ◌+◌, ◌-◌, ◌%◌, ◌^◌, ◌<◌, true, ltb, leb, [], ◌∷◌, ℤ, pos, negsuc, refl, sym, ap, ◌∙◌, arith}
 use Rattle.std.specs.Prelude.{FitsSigned, int_le}
 use Rattle.std.specs.Int.{w8, w32, w64, cast_signed, cast_unsigned, to_le_bytes}
-use Rattle.std.proofs.lemmas.Bool.{ltb-true, leb-true}
+use Rattle.std.proofs.lemmas.Bool.{ltb-true, leb-true, and_parts}
 use Rattle.std.proofs.lemmas.Int.{to_z-of_z, of_z-to_z}
 use Rattle.std.proofs.lemmas.Nat.{from_le_bytes-to_le_bytes_4, from_le_bytes-to_le_bytes_8}
 use Rattle.kc_words.specs.declared.width.Width.{Width}
@@ -11,14 +11,6 @@ use Rattle.kc_reading.specs.Reading.{IsNumber}
 use Rattle.kc_insn.specs.Fields.{IsSigned, ib, id, IsImmediate, target}
 use Rattle.kc_insn.specs.Encodable.{is_signed_long, is_immediate}
 use Rattle.kc_encode.specs.Canonical.{is_signed_byte, one_byte, four_bytes, eight_bytes, signed_at, distance}
-
-pub and-left : (a b : Bool) → (a && b) ≡ true → a ≡ true
-and-left true b e = refl
-and-left false b e = absurd cc
-
-pub and-right : (a b : Bool) → (a && b) ≡ true → b ≡ true
-and-right true b e = e
-and-right false b e = absurd cc
 
 -- ---- bytes
 
@@ -40,12 +32,12 @@ number8 v h =
 
 pub byte-fits : (z : ℤ) → is_signed_byte z ≡ true → FitsSigned w8 z
 unfolding is_signed_byte
-byte-fits (pos n) h = record { sfits = ltb-true n 128 (and-right (int_le (negsuc 127) (pos n)) (ltb n 128) h) }
-byte-fits (negsuc n) h = let k = leb-true n 127 (and-left (leb n 127) true h) in record { sfits = omega (arith, k) }
+byte-fits (pos n) h = record { sfits = ltb-true n 128 (and_parts (int_le (negsuc 127) (pos n)) (ltb n 128) h).1 }
+byte-fits (negsuc n) h = let k = leb-true n 127 (and_parts (leb n 127) true h).0 in record { sfits = omega (arith, k) }
 
 pub long-fits : (z : ℤ) → is_signed_long z ≡ true → FitsSigned w32 z
-long-fits (pos n) h = record { sfits = ltb-true n 2147483648 (and-right (int_le (negsuc 2147483647) (pos n)) (ltb n 2147483648) h) }
-long-fits (negsuc n) h = let k = leb-true n 2147483647 (and-left (leb n 2147483647) true h) in record { sfits = omega (arith, k) }
+long-fits (pos n) h = record { sfits = ltb-true n 2147483648 (and_parts (int_le (negsuc 2147483647) (pos n)) (ltb n 2147483648) h).1 }
+long-fits (negsuc n) h = let k = leb-true n 2147483647 (and_parts (leb n 2147483647) true h).0 in record { sfits = omega (arith, k) }
 
 bits8 : (z : ℤ) → FitsSigned w8 z → cast_unsigned w8 z < 256
 bits8 (pos n) f = omega (arith, f.sfits)
@@ -74,7 +66,7 @@ number-quad z f = (cast_unsigned w64 z, number8 (cast_unsigned w64 z) (bits64 z 
 
 pub number-long : (z : ℤ) → is_immediate Long z ≡ true → (v : ℕ) × IsNumber 4 (four_bytes z) v × (z ≡ pos v)
 unfolding four_bytes
-number-long (pos n) h = (n, number4 n (ltb-true n 4294967296 (and-right (leb 0 n) (ltb n 4294967296) h)), refl)
+number-long (pos n) h = (n, number4 n (ltb-true n 4294967296 (and_parts (leb 0 n) (ltb n 4294967296) h).1), refl)
 number-long (negsuc n) h = absurd cc
 
 pub imm4 : (w : Width) (z : ℤ) → (w ≡ Byte → ⊥) → is_immediate w z ≡ true → IsImmediate w id (four_bytes z) z
@@ -83,7 +75,7 @@ imm4 Long z other h = number-long z h
 imm4 Quad z other h = signed4 z (long-fits z h)
 
 pub imm-byte : (z : ℤ) → is_immediate Byte z ≡ true → IsImmediate Byte ib (one_byte z) z
-imm-byte (pos n) h = (n, number1 n (ltb-true n 256 (and-right (leb 0 n) (ltb n 256) h)), refl)
+imm-byte (pos n) h = (n, number1 n (ltb-true n 256 (and_parts (leb 0 n) (ltb n 256) h).1), refl)
 imm-byte (negsuc n) h = absurd cc
 
 long1 : (n : ℕ) → n < 2 ^ 32 → is_signed_byte (signed_at Long (pos n)) ≡ true → IsImmediate Long ib (one_byte (signed_at Long (pos n))) (pos n)
@@ -101,7 +93,7 @@ quad1 z s = signed1 z s
 
 pub imm1 : (w : Width) (z : ℤ) → (w ≡ Byte → ⊥) → is_immediate w z ≡ true → is_signed_byte (signed_at w z) ≡ true → IsImmediate w ib (one_byte (signed_at w z)) z
 imm1 Byte z other h s = absurd (other refl)
-imm1 Long (pos n) other h s = long1 n (ltb-true n 4294967296 (and-right (leb 0 n) (ltb n 4294967296) h)) s
+imm1 Long (pos n) other h s = long1 n (ltb-true n 4294967296 (and_parts (leb 0 n) (ltb n 4294967296) h).1) s
 imm1 Long (negsuc n) other h s = absurd cc
 imm1 Quad z other h s = quad1 z s
 

@@ -2,7 +2,7 @@
 use Rattle.std.proofs.Common.{◌≡◌, ℕ, suc, ◌+◌, ◌^◌, ◌<◌, ◌≤◌, Bool, true, false, cond, ◌&&◌, ltb, leb, List, [], ◌∷◌, ◌++◌, length, Option, Some, None, ℤ, pos, refl, sym, ap, subst, ◌∙◌, append_assoc, arith, lit<}
 use Rattle.std.specs.Prelude.{FitsSigned}
 use Rattle.std.specs.Int.{w32, w64, cast_signed}
-use Rattle.std.proofs.lemmas.Bool.{ltb-true, ltb-false, leb-true, leb-false, lt-ltb}
+use Rattle.std.proofs.lemmas.Bool.{ltb-true, ltb-false, leb-true, leb-false, lt-ltb, and_parts}
 use Rattle.std.proofs.lemmas.List.{length-append}
 use Rattle.kc_words.specs.declared.width.Width.{Width}
 use Rattle.kc_words.specs.declared.width.Width.TheVariants.{Byte, Long, Quad}
@@ -23,7 +23,7 @@ use Rattle.kc_insn.specs.Table as table
 use Rattle.kc_insn.specs.Spells.{whole, jump, permits, IsLowByte, IsTail, gs_bytes, in_one_byte, in_two_bytes, behind_f3, resolve, Spells}
 use Rattle.kc_insn.specs.Encodable.{is_register, is_place, is_wide, is_immediate}
 use Rattle.kc_encode.specs.Canonical.{one_byte as byte_bytes, four_bytes, eight_bytes, low, high, rex, rex_bytes, is_quad, operand, gs, x_of, b_of, opcode_register, with_register, with_digit, on_register, needs_rex, distance}
-use Rattle.kc_encode.proofs.Numbers.{and-right, imm-byte, number-quad, number-long, signed4, target-of-distance}
+use Rattle.kc_encode.proofs.Numbers.{imm-byte, number-quad, number-long, signed4, target-of-distance}
 use Rattle.kc_encode.proofs.Operands.{rex-is, rex-bits, rex-length, width-is, permits-used, low-below, register-whole, HasDisp, operand-is, operand-length, four-length, eight-length}
 
 -- ---- lists
@@ -249,7 +249,7 @@ pub with-rex-byte : (r : Reg) (z : ℤ) (at : ℕ) → needs_rex (place.Reg r) �
     → Spells (0x40 ∷ 0xF6 ∷ operand 0 (place.Reg r) ++ byte_bytes z) at (insn.«Test» Byte (place.Reg r) (source.Imm z))
 unfolding one_byte
 with-rex-byte r z at h ok =
-    let below : r.0 < 8 = ltb-true r.0 8 (and-right (leb 4 r.0) (ltb r.0 8) h) in
+    let below : r.0 < 8 = ltb-true r.0 8 (and_parts (leb 4 r.0) (ltb r.0 8) h).1 in
     let small : is_register r ≡ true = lt-ltb r.0 16 (omega (arith, below)) in
     let clear : false ≡ high r = sym (not-leb 8 r.0 below) in (
       omega (arith, length-append (0x40 ∷ 0xF6 ∷ operand 0 (place.Reg r)) (byte_bytes z), operand-length 0 (place.Reg r)),

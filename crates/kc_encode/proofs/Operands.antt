@@ -3,7 +3,7 @@ use Rattle.std.proofs.Common.{◌≡◌, ℕ, ◌+◌, ◌*◌, ◌%◌, ◌^◌
 use Rattle.std.specs.Prelude.{FitsSigned}
 use Rattle.std.specs.Int.{w32}
 use Rattle.std.specs.Ordering.{int_eq}
-use Rattle.std.proofs.lemmas.Bool.{ltb-true, leb-true, leb-false, eqb-true, eqb-false}
+use Rattle.std.proofs.lemmas.Bool.{ltb-true, leb-true, leb-false, eqb-true, eqb-false, and_from, and_parts, or_cases}
 use Rattle.std.proofs.lemmas.Bool.Decides.{Decides-int_eq}
 use Rattle.kc_words.specs.declared.width.Width.{Width}
 use Rattle.kc_words.specs.declared.width.Width.TheVariants.{Byte, Long, Quad}
@@ -19,7 +19,7 @@ use Rattle.kc_insn.specs.Table.{Form}
 use Rattle.kc_insn.specs.Spells.{has_rm, has_reg, has_register, has_access, has_width, needs_w, permits, permits_rex}
 use Rattle.kc_insn.specs.Encodable.{is_register, is_index, is_address, is_place, is_wide}
 use Rattle.kc_encode.specs.Canonical.{is_signed_byte, one_byte, four_bytes, eight_bytes, low, high, rex, rex_bytes, is_quad, mode, disp_bytes, modrm, scale_field, sib, needs_sib, memory, operand, gs, index_high, base_high, x_of, b_of}
-use Rattle.kc_encode.proofs.Numbers.{and-left, and-right, signed1, signed4}
+use Rattle.kc_encode.proofs.Numbers.{signed1, signed4}
 
 -- ---- REX
 
@@ -40,11 +40,6 @@ pub width-is : (w : Width) (r x b : Bool) → is_wide w ≡ true → width_of (r
 width-is Byte r x b h = absurd cc
 width-is Long r x b h = ap (λ (t : Bool). cond t Quad Long) (rex-bits false r x b).0
 width-is Quad r x b h = ap (λ (t : Bool). cond t Quad Long) (rex-bits true r x b).0
-
-and-true : (a b : Bool) → a ≡ true → b ≡ true → (a && b) ≡ true
-and-true true true p q = refl
-and-true true false p q = absurd cc
-and-true false b p q = absurd cc
 
 implied : (a b : Bool) → (a ≡ true → b ≡ true) → (not a || b) ≡ true
 implied true b h = h refl
@@ -72,14 +67,14 @@ some-bit false false false false c h = absurd cc
 pub permits-used : (form : Form) (g w r x b : Bool) → needs_w form ≡ false → (g ≡ true → has_access form ≡ true) → (w ≡ true → has_width form ≡ true)
     → (r ≡ true → has_reg form ≡ true) → (x ≡ true → has_rm form ≡ true) → (b ≡ true → has_register form ≡ true) → permits form g (rex w r x b) ≡ true
 unfolding rex
-permits-used form g w r x b n hg hw hr hx hb = and-true _ _ (implied g (has_access form) hg) (go (w || (r || (x || b))) refl)
+permits-used form g w r x b n hg hw hr hx hb = and_from _ _ (implied g (has_access form) hg) (go (w || (r || (x || b))) refl)
   where
     width : (t : Bool) → (t ≡ true → has_width form ≡ true) → cond t (has_width form || needs_w form) (not (needs_w form)) ≡ true
     width true h = ap (λ (k : Bool). k || needs_w form) (h refl)
     width false h = ap not n
 
     go : (t : Bool) → (w || (r || (x || b))) ≡ t → permits_rex form (cond t (Some (record { w = w; r = r; x = x; b = b })) None) ≡ true
-    go true e = and-true _ _ (and-true _ _ (and-true _ _ (and-true _ _ (width w hw) (implied r (has_reg form) hr)) (implied x (has_rm form) hx)) (implied b (has_register form) hb)) (some-bit w r x b (has_register form) e)
+    go true e = and_from _ _ (and_from _ _ (and_from _ _ (and_from _ _ (width w hw) (implied r (has_reg form) hr)) (implied x (has_rm form) hx)) (implied b (has_register form) hb)) (some-bit w r x b (has_register form) e)
     go false e = ap not n
 
 -- ---- registers
@@ -159,16 +154,12 @@ disp-is r disp m (inr (inr h)) f = subst (λ (n : ℕ). IsSigned (fields.disp_by
 
 -- ---- SIB
 
-or-cases : (a b : Bool) → (a || b) ≡ true → (a ≡ true) ⊎ (b ≡ true)
-or-cases true b h = inl refl
-or-cases false b h = inr h
-
 scale-is : (s : ℕ) → (eqb s 1 || (eqb s 2 || (eqb s 4 || eqb s 8))) ≡ true → (2 ^ scale_field s ≡ s) × (scale_field s < 4)
-scale-is s h = elim (or-cases (eqb s 1) _ h) [
+scale-is s h = elim (or_cases (eqb s 1) _ h) [
   | inl a ↦ at 1 (eqb-true s 1 a) (refl, lit< tt)
-  | inr r ↦ elim (or-cases (eqb s 2) _ r) [
+  | inr r ↦ elim (or_cases (eqb s 2) _ r) [
     | inl a ↦ at 2 (eqb-true s 2 a) (refl, lit< tt)
-    | inr q ↦ elim (or-cases (eqb s 4) _ q) [
+    | inr q ↦ elim (or_cases (eqb s 4) _ q) [
       | inl a ↦ at 4 (eqb-true s 4 a) (refl, lit< tt)
       | inr a ↦ at 8 (eqb-true s 8 a) (refl, lit< tt)
     ]
@@ -199,10 +190,10 @@ index-is : (o : Option Rex) (index : Option (Reg × ℕ)) → is_index index ≡
     → (index_of o (scale_of index) (field_of index) ≡ index) × (scale_of index < 4) × (field_of index < 8)
 index-is o None h e = (ap (λ (t : Bool). cond (eqb (worth t 8 + 4) 4) None (Some (extended t 4, 1))) e, lit< tt, lit< tt)
 index-is o (Some (r, s)) h e =
-    let ok : is_register r ≡ true = and-left (ltb r.0 16) _ h in
-    let rest = and-right (ltb r.0 16) _ h in
-    let other : not (eqb r.0 4) ≡ true = and-left (not (eqb r.0 4)) _ rest in
-    let sc = scale-is s (and-right (not (eqb r.0 4)) _ rest) in (
+    let ok : is_register r ≡ true = (and_parts (ltb r.0 16) _ h).0 in
+    let rest = (and_parts (ltb r.0 16) _ h).1 in
+    let other : not (eqb r.0 4) ≡ true = (and_parts (not (eqb r.0 4)) _ rest).0 in
+    let sc = scale-is s (and_parts (not (eqb r.0 4)) _ rest).1 in (
       ap (λ (t : Bool). cond {A = Option (Reg × ℕ)} (eqb (worth t 8 + low r) 4) None (Some (extended t (low r), 2 ^ scale_field s))) e
           ∙ ap (λ (n : ℕ). cond {A = Option (Reg × ℕ)} (eqb n 4) None (Some (extended (high r) (low r), 2 ^ scale_field s))) (number-whole r ok)
           ∙ plain (eqb r.0 4) other
@@ -298,11 +289,11 @@ memory-is g o reg base.Rip None disp below ok f x b = rip-is g o reg disp below 
 memory-is g o reg base.Rip (Some i) disp below ok f x b = absurd cc
 memory-is g o reg base.Absent index disp below ok f x b = absent-is g o reg index disp below ok f x
 memory-is g o reg (base.Reg r) (Some i) disp below ok f x b =
-    based-is g o reg r (Some i) disp below (and-left (is_register r) (is_index (Some i)) ok) (and-right (is_register r) (is_index (Some i)) ok) f x b
+    based-is g o reg r (Some i) disp below (and_parts (is_register r) (is_index (Some i)) ok).0 (and_parts (is_register r) (is_index (Some i)) ok).1 f x b
 memory-is g o reg (base.Reg r) None disp below ok f x b = go (eqb (low r) 4) refl
   where
     here : is_register r ≡ true
-    here = and-left (is_register r) true ok
+    here = (and_parts (is_register r) true ok).0
 
     go : (t : Bool) → eqb (low r) 4 ≡ t
         → MemoryIs g o reg (base.Reg r) None disp (cond t (modrm (mode r disp) reg 4 ∷ sib None (low r) ∷ disp_bytes (mode r disp) disp) (modrm (mode r disp) reg (low r) ∷ disp_bytes (mode r disp) disp))

@@ -2,7 +2,7 @@
 use Rattle.std.proofs.Common.{◌≡◌, ℕ, zero, suc, ◌+◌, ◌*◌, ◌^◌, ◌<◌, Bool, true, false, cond, not, ◌&&◌, ◌==◌, [], ◌∷◌, ◌++◌, Option, Some, None, ℤ, refl, arith, lit<}
 use Rattle.std.specs.Prelude.{FitsSigned}
 use Rattle.std.specs.Int.{w32, w64}
-use Rattle.std.proofs.lemmas.Bool.{ltb-true}
+use Rattle.std.proofs.lemmas.Bool.{ltb-true, and_parts}
 use Rattle.kc_words.specs.declared.width.Width.{Width}
 use Rattle.kc_words.specs.declared.width.Width.TheVariants.{Byte, Long, Quad}
 use Rattle.kc_insn.specs.declared.insn.Reg.{Reg}
@@ -24,7 +24,7 @@ use Rattle.kc_insn.specs.Spells.{whole, in_one_byte, in_two_bytes, behind_f3, Sp
 use Rattle.kc_insn.specs.Encodable.{is_register, is_place, is_memory, is_wide, is_immediate, is_signed_long, is_move, is_pair, is_test, is_pushed, is_encodable}
 use Rattle.kc_encode.specs.Canonical as Canonical
 use Rattle.kc_encode.specs.Canonical.{is_signed_byte, one_byte as byte_bytes, four_bytes, low, mov, mov_immediate, push, pop, alu_digit, signed_at, arithmetic, needs_rex, test, test_immediate, bit_digit, distance, reaches, canonical_bytes}
-use Rattle.kc_encode.proofs.Numbers.{and-left, and-right, long-fits, imm4, imm1, signed1, signed4}
+use Rattle.kc_encode.proofs.Numbers.{long-fits, imm4, imm1, signed1, signed4}
 use Rattle.kc_encode.proofs.Operands.{HasDisp, low-below, four-length}
 use Rattle.kc_encode.proofs.Opcodes.{with-rm-reg, with-reg-rm, with-address, with-immediate, with-quad, with-bit, with-byte, with-rex-byte, with-opcode-register, with-long-immediate, with-quad-immediate, with-on-register, with-gs-base, with-jump, with-branch}
 
@@ -169,7 +169,7 @@ at-registers = (refl, refl, refl)
 mov-immediate-spelled : (w : Width) (d : Reg) (z : ℤ) (at : ℕ) → is_wide w ≡ true → is_move w (place.Reg d) (source.Imm z) ≡ true → FitsSigned w64 z → Spells (mov_immediate w d z) at (insn.Mov w (place.Reg d) (source.Imm z))
 mov-immediate-spelled Byte d z at wide ok f = absurd cc
 mov-immediate-spelled Long d z at wide ok f =
-    with-long-immediate d z at (at-B8 (low d) (low-below d)) (and-left (is_register d) (is_immediate Long z) ok) (and-right (is_register d) (is_immediate Long z) ok)
+    with-long-immediate d z at (at-B8 (low d) (low-below d)) (and_parts (is_register d) (is_immediate Long z) ok).0 (and_parts (is_register d) (is_immediate Long z) ok).1
 mov-immediate-spelled Quad d z at wide ok f = go (is_signed_long z) refl
   where
     go : (t : Bool) → is_signed_long z ≡ t → Spells (cond t (Canonical.with_digit Quad (0xC7 ∷ []) 0 (place.Reg d) ++ four_bytes z) (Canonical.opcode_register true 0xB8 d ++ Canonical.eight_bytes z)) at (insn.Mov Quad (place.Reg d) (source.Imm z))
@@ -177,14 +177,14 @@ mov-immediate-spelled Quad d z at wide ok f = go (is_signed_long z) refl
     go false e = with-quad-immediate d z at (at-B8 (low d) (low-below d)) ok f
 
 mov-spelled : (w : Width) (p : Place) (s : Source) (at : ℕ) → is_wide w ≡ true → is_move w p s ≡ true → HasDisp p → HasNumbers s → Spells (mov w p s) at (insn.Mov w p s)
-mov-spelled w (place.Reg d) (source.Reg s) at wide ok hp hs = with-rm-reg mov_rm 0x89 w s (place.Reg d) at at-mov.0 wide (and-right (is_register d) (is_register s) ok) (and-left (is_register d) (is_register s) ok) tt
-mov-spelled w (place.Mem m) (source.Reg s) at wide ok hp hs = with-rm-reg mov_rm 0x89 w s (place.Mem m) at at-mov.0 wide (and-right (is_memory m) (is_register s) ok) (and-left (is_memory m) (is_register s) ok) hp
-mov-spelled w (place.Reg d) (source.Mem m) at wide ok hp hs = with-reg-rm mov_reg 0x8B w d (place.Mem m) at at-mov.1 wide (and-left (is_register d) (is_memory m) ok) (and-right (is_register d) (is_memory m) ok) hs
+mov-spelled w (place.Reg d) (source.Reg s) at wide ok hp hs = with-rm-reg mov_rm 0x89 w s (place.Reg d) at at-mov.0 wide (and_parts (is_register d) (is_register s) ok).1 (and_parts (is_register d) (is_register s) ok).0 tt
+mov-spelled w (place.Mem m) (source.Reg s) at wide ok hp hs = with-rm-reg mov_rm 0x89 w s (place.Mem m) at at-mov.0 wide (and_parts (is_memory m) (is_register s) ok).1 (and_parts (is_memory m) (is_register s) ok).0 hp
+mov-spelled w (place.Reg d) (source.Mem m) at wide ok hp hs = with-reg-rm mov_reg 0x8B w d (place.Mem m) at at-mov.1 wide (and_parts (is_register d) (is_memory m) ok).0 (and_parts (is_register d) (is_memory m) ok).1 hs
 mov-spelled w (place.Mem n) (source.Mem m) at wide ok hp hs = absurd cc
 mov-spelled w (place.Reg d) (source.Imm z) at wide ok hp hs = mov-immediate-spelled w d z at wide ok hs
 mov-spelled w (place.Mem m) (source.Imm z) at wide ok hp hs =
     with-immediate (only 0 insn.Mov) id insn.Mov 0xC7 0 w (place.Mem m) (four_bytes z) z at at-mov.2 refl (lit< tt) (omega (arith, four-length z))
-    (imm4 w z (wide-not-byte w wide) (and-right (is_memory m) (is_immediate w z) ok)) wide (and-left (is_memory m) (is_immediate w z) ok) hp
+    (imm4 w z (wide-not-byte w wide) (and_parts (is_memory m) (is_immediate w z) ok).1) wide (and_parts (is_memory m) (is_immediate w z) ok).0 hp
 
 -- ---- PUSH and POP
 
@@ -223,14 +223,14 @@ alu-immediate op w p z at wide okp okz hp = go (is_signed_byte (signed_at w z)) 
 
 alu-spelled : (op : AluOp) (w : Width) (p : Place) (s : Source) (at : ℕ) → is_wide w ≡ true → is_pair w p s ≡ true → HasDisp p → HasNumbers s → Spells (arithmetic op w p s) at (insn.Alu op w p s)
 alu-spelled op w (place.Reg d) (source.Reg s) at wide ok hp hs =
-    with-rm-reg (λ v rm reg. insn.Alu op v rm (source.Reg reg)) (8 * alu_digit op + 1) w s (place.Reg d) at (at-alu op).0 wide (and-right (is_register d) (is_register s) ok) (and-left (is_register d) (is_register s) ok) tt
+    with-rm-reg (λ v rm reg. insn.Alu op v rm (source.Reg reg)) (8 * alu_digit op + 1) w s (place.Reg d) at (at-alu op).0 wide (and_parts (is_register d) (is_register s) ok).1 (and_parts (is_register d) (is_register s) ok).0 tt
 alu-spelled op w (place.Mem m) (source.Reg s) at wide ok hp hs =
-    with-rm-reg (λ v rm reg. insn.Alu op v rm (source.Reg reg)) (8 * alu_digit op + 1) w s (place.Mem m) at (at-alu op).0 wide (and-right (is_memory m) (is_register s) ok) (and-left (is_memory m) (is_register s) ok) hp
+    with-rm-reg (λ v rm reg. insn.Alu op v rm (source.Reg reg)) (8 * alu_digit op + 1) w s (place.Mem m) at (at-alu op).0 wide (and_parts (is_memory m) (is_register s) ok).1 (and_parts (is_memory m) (is_register s) ok).0 hp
 alu-spelled op w (place.Reg d) (source.Mem m) at wide ok hp hs =
-    with-reg-rm (λ v reg rm. insn.Alu op v (place.Reg reg) (source_of rm)) (8 * alu_digit op + 3) w d (place.Mem m) at (at-alu op).1 wide (and-left (is_register d) (is_memory m) ok) (and-right (is_register d) (is_memory m) ok) hs
+    with-reg-rm (λ v reg rm. insn.Alu op v (place.Reg reg) (source_of rm)) (8 * alu_digit op + 3) w d (place.Mem m) at (at-alu op).1 wide (and_parts (is_register d) (is_memory m) ok).0 (and_parts (is_register d) (is_memory m) ok).1 hs
 alu-spelled op w (place.Mem n) (source.Mem m) at wide ok hp hs = absurd cc
-alu-spelled op w (place.Reg d) (source.Imm z) at wide ok hp hs = alu-immediate op w (place.Reg d) z at wide (and-left (is_register d) (is_immediate w z) ok) (and-right (is_register d) (is_immediate w z) ok) hp
-alu-spelled op w (place.Mem m) (source.Imm z) at wide ok hp hs = alu-immediate op w (place.Mem m) z at wide (and-left (is_memory m) (is_immediate w z) ok) (and-right (is_memory m) (is_immediate w z) ok) hp
+alu-spelled op w (place.Reg d) (source.Imm z) at wide ok hp hs = alu-immediate op w (place.Reg d) z at wide (and_parts (is_register d) (is_immediate w z) ok).0 (and_parts (is_register d) (is_immediate w z) ok).1 hp
+alu-spelled op w (place.Mem m) (source.Imm z) at wide ok hp hs = alu-immediate op w (place.Mem m) z at wide (and_parts (is_memory m) (is_immediate w z) ok).0 (and_parts (is_memory m) (is_immediate w z) ok).1 hp
 
 -- ---- TEST
 
@@ -252,10 +252,10 @@ test-immediate-spelled Quad p z at okp okz hp =
 
 test-spelled : (w : Width) (p : Place) (s : Source) (at : ℕ) → is_test w p s ≡ true → HasDisp p → Spells (test w p s) at (insn.«Test» w p s)
 test-spelled w p (source.Reg s) at ok hp =
-    let rest = and-right (is_wide w) (is_place p && is_register s) ok in
-    with-rm-reg test_rm 0x85 w s p at at-others.1 (and-left (is_wide w) (is_place p && is_register s) ok) (and-right (is_place p) (is_register s) rest) (and-left (is_place p) (is_register s) rest) hp
+    let rest = (and_parts (is_wide w) (is_place p && is_register s) ok).1 in
+    with-rm-reg test_rm 0x85 w s p at at-others.1 (and_parts (is_wide w) (is_place p && is_register s) ok).0 (and_parts (is_place p) (is_register s) rest).1 (and_parts (is_place p) (is_register s) rest).0 hp
 test-spelled w p (source.Mem m) at ok hp = absurd cc
-test-spelled w p (source.Imm z) at ok hp = test-immediate-spelled w p z at (and-left (is_place p) (is_immediate w z) ok) (and-right (is_place p) (is_immediate w z) ok) hp
+test-spelled w p (source.Imm z) at ok hp = test-immediate-spelled w p z at (and_parts (is_place p) (is_immediate w z) ok).0 (and_parts (is_place p) (is_immediate w z) ok).1 hp
 
 -- ---- fixed bytes
 
@@ -322,21 +322,21 @@ canonical-spelled (insn.ReadCr3 r) at ok near f = with-on-register (only 3 insn.
 canonical-spelled (insn.WriteCr3 r) at ok near f = with-on-register (only 3 insn.WriteCr3) insn.WriteCr3 0x22 3 r at at-registers.1 refl (lit< tt) ok
 canonical-spelled (insn.ReadGs r) at ok near f = with-gs-base gs_select insn.ReadGs 1 r at at-registers.2 refl (lit< tt) ok
 canonical-spelled (insn.WriteGs r) at ok near f = with-gs-base gs_select insn.WriteGs 3 r at at-registers.2 refl (lit< tt) ok
-canonical-spelled (insn.Mov w p s) at ok near f = mov-spelled w p s at (and-left (is_wide w) (is_move w p s) ok) (and-right (is_wide w) (is_move w p s) ok) f.0 f.1
+canonical-spelled (insn.Mov w p s) at ok near f = mov-spelled w p s at (and_parts (is_wide w) (is_move w p s) ok).0 (and_parts (is_wide w) (is_move w p s) ok).1 f.0 f.1
 canonical-spelled (insn.Lea w r m) at ok near f =
-    let one = and-right (is_wide w) (is_register r && (not m.gs && is_memory m)) ok in
-    let two = and-right (is_register r) (not m.gs && is_memory m) one in
-    with-address w r m at (and-left (is_wide w) (is_register r && (not m.gs && is_memory m)) ok) (and-left (is_register r) (not m.gs && is_memory m) one)
-    (gs-off m.gs (and-left (not m.gs) (is_memory m) two)) (and-right (not m.gs) (is_memory m) two) f
+    let one = (and_parts (is_wide w) (is_register r && (not m.gs && is_memory m)) ok).1 in
+    let two = (and_parts (is_register r) (not m.gs && is_memory m) one).1 in
+    with-address w r m at (and_parts (is_wide w) (is_register r && (not m.gs && is_memory m)) ok).0 (and_parts (is_register r) (not m.gs && is_memory m) one).0
+    (gs-off m.gs (and_parts (not m.gs) (is_memory m) two).0) (and_parts (not m.gs) (is_memory m) two).1 f
 canonical-spelled (insn.Xchg w p r) at ok near f =
-    let one = and-right (is_wide w) (is_place p && is_register r) ok in
-    with-rm-reg insn.Xchg 0x87 w r p at at-others.0 (and-left (is_wide w) (is_place p && is_register r) ok) (and-right (is_place p) (is_register r) one) (and-left (is_place p) (is_register r) one) f
+    let one = (and_parts (is_wide w) (is_place p && is_register r) ok).1 in
+    with-rm-reg insn.Xchg 0x87 w r p at at-others.0 (and_parts (is_wide w) (is_place p && is_register r) ok).0 (and_parts (is_place p) (is_register r) one).1 (and_parts (is_place p) (is_register r) one).0 f
 canonical-spelled (insn.Push s) at ok near f = push-spelled s at ok f
 canonical-spelled (insn.Pop p) at ok near f = pop-spelled p at ok f
-canonical-spelled (insn.Alu op w p s) at ok near f = alu-spelled op w p s at (and-left (is_wide w) (is_pair w p s) ok) (and-right (is_wide w) (is_pair w p s) ok) f.0 f.1
+canonical-spelled (insn.Alu op w p s) at ok near f = alu-spelled op w p s at (and_parts (is_wide w) (is_pair w p s) ok).0 (and_parts (is_wide w) (is_pair w p s) ok).1 f.0 f.1
 canonical-spelled (insn.«Test» w p s) at ok near f = test-spelled w p s at ok f.0
 canonical-spelled (insn.Bit op w p n) at ok near f =
-    with-bit op (bit_digit op) w p n at (at-bit op).0 (at-bit op).1 f.1 (and-left (is_wide w) (is_place p) ok) (and-right (is_wide w) (is_place p) ok) f.0
+    with-bit op (bit_digit op) w p n at (at-bit op).0 (at-bit op).1 f.1 (and_parts (is_wide w) (is_place p) ok).0 (and_parts (is_wide w) (is_place p) ok).1 f.0
 canonical-spelled (insn.Jcc c target) at ok near f = with-branch c target at (at-80 c (ltb-true c 16 ok)) f (long-fits (distance (at + 6) target) near)
 canonical-spelled (insn.Jmp target) at ok near f = with-jump insn.Jmp 0xE9 target at at-jumps.0 f (long-fits (distance (at + 5) target) near)
 canonical-spelled (insn.Call target) at ok near f = with-jump insn.Call 0xE8 target at at-jumps.1 f (long-fits (distance (at + 5) target) near)

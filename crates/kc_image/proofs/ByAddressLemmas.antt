@@ -22,7 +22,7 @@ not_gt a b le =
     by_ranked (a < b) (a ≡ b) (b < a) (nat_cmp a b) (ranked a b (nat_cmp a b) refl)
     (λ e _. ap is_gt e) (λ e _. ap is_gt e) (λ e gt. absurd (omega arith))
 
-some_is : {A : Type 0} (x y : A) → Some x ≡ Some y → x ≡ y
+pub some_is : {A : Type 0} (x y : A) → Some x ≡ Some y → x ≡ y
 some_is x y e = cc
 
 -- ---- the tests

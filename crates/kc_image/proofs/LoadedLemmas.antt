@@ -6,10 +6,7 @@ use Rattle.std.proofs.lemmas.List.{append-nil, length-take, length-set, take-app
 use Rattle.kc_words.specs.Span.{Holds}
 use Rattle.kc_image.specs.declared.segments.Place.{Place}
 use Rattle.kc_image.specs.Image.{Segment, segment_at, segments_at, holds, place_of_address, loaded, run}
-use Rattle.kc_image.proofs.ByAddressLemmas.{holds-from}
-
-some_is : {A : Type 0} (x y : A) → Some x ≡ Some y → x ≡ y
-some_is x y e = cc
+use Rattle.kc_image.proofs.ByAddressLemmas.{some_is, holds-from}
 
 pub place_holds : (list : List Place) (a : ℕ) (p : Place) → Some p ≡ place_of_address list a → Holds p.span a
 place_holds [] a p e = absurd cc

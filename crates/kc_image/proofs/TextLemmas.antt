@@ -4,6 +4,7 @@ use Rattle.std.proofs.lemmas.Bool.{cases_Bool, ltb-false, le-leb, lt-leb, lt-ltb
 use Rattle.std.specs.List.{position_or_len}
 use Rattle.std.proofs.lemmas.List.Recursion.{is_position_or_len}
 use Rattle.kc_image.specs.FirstFault.{text, is_kept_name}
+use Rattle.kc_image.proofs.ByAddressLemmas.{some_is}
 
 -- ---- where the text ends
 
@@ -17,9 +18,6 @@ unfolding text
 text_place xs =
     is_position_or_len (λ ys. length (text ys)) (λ b. eqb b 0) refl
     (λ y ys. elim (cases_Bool (eqb y 0)) [ inl t ↦ rw t refl | inr f ↦ rw f (omega arith) ]) xs
-
-some_is : (m n : ℕ) → Some m ≡ Some n → m ≡ n
-some_is m n e = cc
 
 pub text_before : (xs : List ℕ) (i : ℕ) → position (λ b. eqb b 0) xs ≡ Some i → i ≡ length (text xs)
 text_before xs i e =

@@ -2,7 +2,7 @@
 use Rattle.std.proofs.Common.{◌≡◌, ℕ, zero, suc, ◌+◌, ◌-◌, ◌^◌, ◌<◌, Bool, true, false, cond, not, ◌&&◌, ◌||◌, eqb, ltb, leb, List, [], ◌∷◌, length, Option, Some, None, ◌⊎◌, inl, inr, ℤ, pos, negsuc, refl, sym, ap, subst, ◌∙◌, arith}
 use Rattle.std.specs.Prelude.{int_le, int_lt}
 use Rattle.std.specs.Int.{w8, w32, w64, cast_signed, cast_unsigned}
-use Rattle.std.proofs.lemmas.Bool.{ltb-true, ltb-false, lt-ltb, leb-true, le-leb}
+use Rattle.std.proofs.lemmas.Bool.{ltb-true, ltb-false, lt-ltb, leb-true, le-leb, and_from, and_parts}
 use Rattle.kc_words.specs.declared.width.Width.{Width}
 use Rattle.kc_words.specs.declared.width.Width.TheVariants.{Byte, Long, Quad}
 use Rattle.kc_reading.specs.Reading.{IsNumber}
@@ -23,14 +23,9 @@ use Rattle.kc_insn.specs.Table.{Form, Row, row, rows, lookup, only, alu_of, alu_
 use Rattle.kc_insn.specs.Spells.{permits, permits_rex, Draft, whole, jump, IsTail, Spelled, in_one_byte, in_two_bytes, behind_f3, short_nop, long_nop, resolve, Spells}
 use Rattle.kc_insn.specs.Encodable.{is_register, is_index, is_address, is_memory, is_place, is_wide, is_signed_long, is_immediate, is_encodable}
 
--- ---- tests
+-- ---- a test with its outcome
 
-and-true : (a b : Bool) → a ≡ true → b ≡ true → (a && b) ≡ true
-and-true true true p q = refl
-and-true true false p q = absurd cc
-and-true false b p q = absurd cc
-
-chosen : {A : Type 0} (b : Bool) (x y z : A) → cond b x y ≡ z → ((b ≡ true) × (x ≡ z)) ⊎ ((b ≡ false) × (y ≡ z))
+pub chosen : {A : Type 0} (b : Bool) (x y z : A) → cond b x y ≡ z → ((b ≡ true) × (x ≡ z)) ⊎ ((b ≡ false) × (y ≡ z))
 chosen true x y z e = inl (refl, e)
 chosen false x y z e = inr (refl, e)
 
@@ -59,22 +54,22 @@ index-ok rex scale index hs hi = go (eqb (worth (x_bit rex) 8 + index) 4) refl
   where
     go : (b : Bool) → eqb (worth (x_bit rex) 8 + index) 4 ≡ b → is_index (cond b None (Some (extended (x_bit rex) index, 2 ^ scale))) ≡ true
     go true e = refl
-    go false e = and-true (ltb (worth (x_bit rex) 8 + index) 16) _ (register-ok (x_bit rex) index hi)
-        (and-true (not (eqb (worth (x_bit rex) 8 + index) 4)) _ (ap not e) (scale-ok scale hs))
+    go false e = and_from (ltb (worth (x_bit rex) 8 + index) 16) _ (register-ok (x_bit rex) index hi)
+        (and_from (not (eqb (worth (x_bit rex) 8 + index) 4)) _ (ap not e) (scale-ok scale hs))
 
 base-ok : (rex : Option Rex) (mode field : ℕ) (index : Option (Reg × ℕ)) → field < 8 → is_index index ≡ true → is_address (base_of base.Absent rex mode field) index ≡ true
 base-ok rex mode field index hf i = go (eqb mode 0 && eqb field 5)
   where
     go : (b : Bool) → is_address (cond b base.Absent (base.Reg (extended (b_bit rex) field))) index ≡ true
     go true = i
-    go false = and-true _ (is_index index) (register-ok (b_bit rex) field hf) i
+    go false = and_from _ (is_index index) (register-ok (b_bit rex) field hf) i
 
 rip-ok : (rex : Option Rex) (mode rm : ℕ) → rm < 8 → is_address (base_of base.Rip rex mode rm) None ≡ true
 rip-ok rex mode rm h = go (eqb mode 0 && eqb rm 5)
   where
     go : (b : Bool) → is_address (cond b base.Rip (base.Reg (extended (b_bit rex) rm))) None ≡ true
     go true = refl
-    go false = and-true _ true (register-ok (b_bit rex) rm h) refl
+    go false = and_from _ true (register-ok (b_bit rex) rm h) refl
 
 memory-ok : (gs : Bool) (rex : Option Rex) (mode rm : ℕ) (bs : List ℕ) (mem : Mem) → rm < 8 → IsMemory gs rex mode rm bs mem → is_memory mem ≡ true
 memory-ok gs rex mode rm bs mem h (no_sib disp other x num is) = ap is_memory is ∙ rip-ok rex mode rm h
@@ -119,27 +114,27 @@ signed1-ok v h = go (ltb v 128) refl
   where
     go : (b : Bool) → ltb v 128 ≡ b → is_signed_long (cond b (pos v) (negsuc (256 - suc v))) ≡ true
     go true e = lt-ltb v 2147483648 (omega arith)
-    go false e = and-true _ true (le-leb (256 - suc v) 2147483647 (omega arith)) refl
+    go false e = and_from _ true (le-leb (256 - suc v) 2147483647 (omega arith)) refl
 
 signed4-ok : (v : ℕ) → v < 4294967296 → is_signed_long (cast_signed w32 v) ≡ true
 signed4-ok v h = go (ltb v 2147483648) refl
   where
     go : (b : Bool) → ltb v 2147483648 ≡ b → is_signed_long (cond b (pos v) (negsuc (4294967296 - suc v))) ≡ true
     go true e = lt-ltb v 2147483648 (ltb-true v 2147483648 e)
-    go false e = let k = ltb-false v 2147483648 e in and-true _ true (le-leb (4294967296 - suc v) 2147483647 (omega (arith, k))) refl
+    go false e = let k = ltb-false v 2147483648 e in and_from _ true (le-leb (4294967296 - suc v) 2147483647 (omega (arith, k))) refl
 
 long1-ok : (v : ℕ) → v < 256 → is_immediate Long (pos (cast_unsigned w32 (cast_signed w8 v))) ≡ true
 long1-ok v h = go (ltb v 128) refl
   where
     at : (n : ℕ) → n < 4294967296 → is_immediate Long (pos n) ≡ true
-    at n k = and-true (leb 0 n) (ltb n 4294967296) (le-leb 0 n (omega arith)) (lt-ltb n 4294967296 k)
+    at n k = and_from (leb 0 n) (ltb n 4294967296) (le-leb 0 n (omega arith)) (lt-ltb n 4294967296 k)
 
     go : (b : Bool) → ltb v 128 ≡ b → is_immediate Long (pos (cast_unsigned w32 (cond b (pos v) (negsuc (256 - suc v))))) ≡ true
     go true e = at v (omega arith)
     go false e = at (4294967296 - suc (256 - suc v)) (omega arith)
 
 natural-ok : (n top : ℕ) → n < top → (int_le (pos 0) (pos n) && int_lt (pos n) (pos top)) ≡ true
-natural-ok n top h = and-true (leb 0 n) (ltb n top) (le-leb 0 n (omega arith)) (lt-ltb n top h)
+natural-ok n top h = and_from (leb 0 n) (ltb n top) (le-leb 0 n (omega arith)) (lt-ltb n top h)
 
 quad-ok : (size : Size) (bs : List ℕ) (z : ℤ) → IsImmediate Quad size bs z → is_signed_long z ≡ true
 quad-ok ib bs z h = ap is_signed_long h.2 ∙ signed1-ok h.0 (number1 bs h.0 h.1)
@@ -192,7 +187,7 @@ register_imm-ok k below gs rex tail d fits h =
 
     go : (b : Bool) → IsNumber (cond b 8 4) tail h.0 → is_encodable (insn.Mov (cond b Quad Long) (place.Reg (extended (b_bit rex) k)) (source.Imm (cond b (cast_signed w64 h.0) (pos h.0)))) ≡ true
     go true n = r
-    go false n = and-true _ _ r (natural-ok h.0 4294967296 (number4 tail h.0 n))
+    go false n = and_from _ _ r (natural-ok h.0 4294967296 (number4 tail h.0 n))
 
 rm_reg-ok : (make : Width → Place → Reg → Insn) → ((w : Width) (p : Place) (r : Reg) → is_wide w ≡ true → is_place p ≡ true → is_register r ≡ true → is_encodable (make w p r) ≡ true) → FormOk (rm_reg make)
 rm_reg-ok make ok gs rex tail d fits h =
@@ -209,7 +204,7 @@ no-gs true rest h = absurd cc
 address-ok : FormOk address
 address-ok gs rex tail d fits h =
     let off : h.1.gs ≡ false = operand-gs gs rex h.0 tail h.1 h.2 ∙ no-gs gs (permits_rex address rex) fits in
-    made-ok d _ h.3 (and-true _ _ (wide-ok rex) (and-true _ _ (register-ok (r_bit rex) h.0 h.2.reg_range) (and-true _ _ (ap not off) (operand-ok gs rex h.0 tail (place.Mem h.1) h.2))))
+    made-ok d _ h.3 (and_from _ _ (wide-ok rex) (and_from _ _ (register-ok (r_bit rex) h.0 h.2.reg_range) (and_from _ _ (ap not off) (operand-ok gs rex h.0 tail (place.Mem h.1) h.2))))
 
 rm_imm-ok : (select : ℕ → Option (Width → Place → Source → Insn)) (size : Size)
     → ((n : ℕ) (make : Width → Place → Source → Insn) (w : Width) (p : Place) (z : ℤ) → select n ≡ Some make → is_wide w ≡ true → is_place p ≡ true → is_immediate w z ≡ true → is_encodable (make w p (source.Imm z)) ≡ true)
@@ -218,10 +213,10 @@ rm_imm-ok select size ok gs rex tail d fits h =
     made-ok d _ h.10 (ok h.0 h.1 (width_of rex) h.2 h.5 h.7 (wide-ok rex) (operand-ok gs rex h.0 h.3 h.2 h.8) (imm-ok rex size h.4 h.5 h.9))
 
 rm_byte_imm-ok : FormOk rm_byte_imm
-rm_byte_imm-ok gs rex tail d fits h = made-ok d _ h.8 (and-true _ _ (operand-ok gs rex 0 h.1 h.0 h.5) (byte-ok h.2 h.3 h.7))
+rm_byte_imm-ok gs rex tail d fits h = made-ok d _ h.8 (and_from _ _ (operand-ok gs rex 0 h.1 h.0 h.5) (byte-ok h.2 h.3 h.7))
 
 rm_bit-ok : FormOk (rm_bit bit_of)
-rm_bit-ok gs rex tail d fits h = made-ok d _ h.10 (and-true _ _ (wide-ok rex) (operand-ok gs rex h.0 h.3 h.2 h.8))
+rm_bit-ok gs rex tail d fits h = made-ok d _ h.10 (and_from _ _ (wide-ok rex) (operand-ok gs rex h.0 h.3 h.2 h.8))
 
 rm_quad-ok : (n : ℕ) (make : Place → Insn) → ((p : Place) → is_place p ≡ true → is_encodable (make p) ≡ true) → FormOk (rm_quad n make)
 rm_quad-ok n make ok gs rex tail d fits h = made-ok d _ h.2 (ok h.0 (operand-ok gs rex n tail h.0 h.1))
@@ -250,20 +245,20 @@ relative-ok make size ok gs rex tail d fits h = subst Encodes (sym h.2) ok
 -- ---- instructions of the rows
 
 mov-rm : (w : Width) (p : Place) (r : Reg) → is_wide w ≡ true → is_place p ≡ true → is_register r ≡ true → is_encodable (insn.Mov w p (source.Reg r)) ≡ true
-mov-rm w (place.Reg d) r a b c = and-true _ _ a (and-true _ _ b c)
-mov-rm w (place.Mem m) r a b c = and-true _ _ a (and-true _ _ b c)
+mov-rm w (place.Reg d) r a b c = and_from _ _ a (and_from _ _ b c)
+mov-rm w (place.Mem m) r a b c = and_from _ _ a (and_from _ _ b c)
 
 mov-reg : (w : Width) (p : Place) (r : Reg) → is_wide w ≡ true → is_place p ≡ true → is_register r ≡ true → is_encodable (insn.Mov w (place.Reg r) (source_of p)) ≡ true
-mov-reg w (place.Reg d) r a b c = and-true _ _ a (and-true _ _ c b)
-mov-reg w (place.Mem m) r a b c = and-true _ _ a (and-true _ _ c b)
+mov-reg w (place.Reg d) r a b c = and_from _ _ a (and_from _ _ c b)
+mov-reg w (place.Mem m) r a b c = and_from _ _ a (and_from _ _ c b)
 
 alu-rm : (op : AluOp) (w : Width) (p : Place) (r : Reg) → is_wide w ≡ true → is_place p ≡ true → is_register r ≡ true → is_encodable (insn.Alu op w p (source.Reg r)) ≡ true
-alu-rm op w (place.Reg d) r a b c = and-true _ _ a (and-true _ _ b c)
-alu-rm op w (place.Mem m) r a b c = and-true _ _ a (and-true _ _ b c)
+alu-rm op w (place.Reg d) r a b c = and_from _ _ a (and_from _ _ b c)
+alu-rm op w (place.Mem m) r a b c = and_from _ _ a (and_from _ _ b c)
 
 alu-reg : (op : AluOp) (w : Width) (p : Place) (r : Reg) → is_wide w ≡ true → is_place p ≡ true → is_register r ≡ true → is_encodable (insn.Alu op w (place.Reg r) (source_of p)) ≡ true
-alu-reg op w (place.Reg d) r a b c = and-true _ _ a (and-true _ _ c b)
-alu-reg op w (place.Mem m) r a b c = and-true _ _ a (and-true _ _ c b)
+alu-reg op w (place.Reg d) r a b c = and_from _ _ a (and_from _ _ c b)
+alu-reg op w (place.Mem m) r a b c = and_from _ _ a (and_from _ _ c b)
 
 push-rm : (p : Place) → is_place p ≡ true → is_encodable (insn.Push (source_of p)) ≡ true
 push-rm (place.Reg r) h = h
@@ -275,20 +270,20 @@ only-is n k x y h =
 
 mov-imm : (w : Width) (p : Place) (z : ℤ) → is_wide w ≡ true → is_place p ≡ true → is_immediate w z ≡ true → is_encodable (insn.Mov w p (source.Imm z)) ≡ true
 mov-imm Byte p z a b c = absurd cc
-mov-imm Long (place.Reg d) z a b c = and-true _ _ b c
+mov-imm Long (place.Reg d) z a b c = and_from _ _ b c
 mov-imm Quad (place.Reg d) z a b c = b
-mov-imm Long (place.Mem m) z a b c = and-true _ _ b c
-mov-imm Quad (place.Mem m) z a b c = and-true _ _ b c
+mov-imm Long (place.Mem m) z a b c = and_from _ _ b c
+mov-imm Quad (place.Mem m) z a b c = and_from _ _ b c
 
 alu-imm : (op : AluOp) (w : Width) (p : Place) (z : ℤ) → is_wide w ≡ true → is_place p ≡ true → is_immediate w z ≡ true → is_encodable (insn.Alu op w p (source.Imm z)) ≡ true
-alu-imm op w (place.Reg d) z a b c = and-true _ _ a (and-true _ _ b c)
-alu-imm op w (place.Mem m) z a b c = and-true _ _ a (and-true _ _ b c)
+alu-imm op w (place.Reg d) z a b c = and_from _ _ a (and_from _ _ b c)
+alu-imm op w (place.Mem m) z a b c = and_from _ _ a (and_from _ _ b c)
 
 group-mov : (n : ℕ) (make : Width → Place → Source → Insn) (w : Width) (p : Place) (z : ℤ) → only 0 insn.Mov n ≡ Some make → is_wide w ≡ true → is_place p ≡ true → is_immediate w z ≡ true → is_encodable (make w p (source.Imm z)) ≡ true
 group-mov n make w p z e a b c = subst (λ (f : Width → Place → Source → Insn). is_encodable (f w p (source.Imm z)) ≡ true) (only-is 0 n insn.Mov make e) (mov-imm w p z a b c)
 
 group-test : (n : ℕ) (make : Width → Place → Source → Insn) (w : Width) (p : Place) (z : ℤ) → only 0 insn.«Test» n ≡ Some make → is_wide w ≡ true → is_place p ≡ true → is_immediate w z ≡ true → is_encodable (make w p (source.Imm z)) ≡ true
-group-test n make w p z e a b c = subst (λ (f : Width → Place → Source → Insn). is_encodable (f w p (source.Imm z)) ≡ true) (only-is 0 n insn.«Test» make e) (and-true _ _ b c)
+group-test n make w p z e a b c = subst (λ (f : Width → Place → Source → Insn). is_encodable (f w p (source.Imm z)) ≡ true) (only-is 0 n insn.«Test» make e) (and_from _ _ b c)
 
 group-alu : (n : ℕ) (make : Width → Place → Source → Insn) (w : Width) (p : Place) (z : ℤ) → alu_imm n ≡ Some make → is_wide w ≡ true → is_place p ≡ true → is_immediate w z ≡ true → is_encodable (make w p (source.Imm z)) ≡ true
 group-alu n make w p z e a b c = go (alu_of n) e
@@ -305,14 +300,6 @@ RowsOk [] = Unit {0}
 RowsOk (row key form ∷ rest) = FormOk form × RowsOk rest
 RowsOk (rows first count form ∷ rest) = ((k : ℕ) → k < count → FormOk (form k)) × RowsOk rest
 
-and-left : (a b : Bool) → (a && b) ≡ true → a ≡ true
-and-left true b e = refl
-and-left false b e = absurd cc
-
-and-right : (a b : Bool) → (a && b) ≡ true → b ≡ true
-and-right true b e = e
-and-right false b e = absurd cc
-
 lookup-ok : (rs : List Row) (op : ℕ) (form : Form) → RowsOk rs → lookup op rs ≡ Some form → FormOk form
 lookup-ok [] op form all e = absurd cc
 lookup-ok (row key f ∷ rest) op form all e =
@@ -324,8 +311,8 @@ lookup-ok (rows first count f ∷ rest) op form all e =
     elim (chosen (leb first op && ltb op (first + count)) (Some (f (op - first))) (lookup op rest) (Some form) e) [
       | inl h ↦
           let same : f (op - first) ≡ form = cc in
-          let low = leb-true first op (and-left (leb first op) (ltb op (first + count)) h.0) in
-          let high = ltb-true op (first + count) (and-right (leb first op) (ltb op (first + count)) h.0) in
+          let low = leb-true first op (and_parts (leb first op) (ltb op (first + count)) h.0).0 in
+          let high = ltb-true op (first + count) (and_parts (leb first op) (ltb op (first + count)) h.0).1 in
           subst (λ (x : Form). FormOk x) same (all.0 (op - first) (omega arith))
       | inr h ↦ lookup-ok rest op form all.1 h.1
     ]
@@ -358,7 +345,7 @@ jcc-ok size c h = relative-ok (insn.Jcc c) size (λ t. lt-ltb c 16 h)
 
 one-ok : RowsOk one_byte
 unfolding one_byte
-one-ok = (rm_reg-ok (λ w rm reg. insn.Mov w rm (source.Reg reg)) mov-rm, (reg_rm-ok (λ w reg rm. insn.Mov w (place.Reg reg) (source_of rm)) mov-reg, (rm_imm-ok (only 0 insn.Mov) id group-mov, (register_imm-ok, (address-ok, (rm_reg-ok insn.Xchg (λ w p r a b c. and-true _ _ a (and-true _ _ b c)), (opcode-ok (λ r. insn.Push (source.Reg r)) (λ r h. h), (imm_quad-ok ib, (imm_quad-ok id, (rm_quad-ok 6 (λ rm. insn.Push (source_of rm)) push-rm, (opcode-ok (λ r. insn.Pop (place.Reg r)) (λ r h. h), (rm_quad-ok 0 insn.Pop (λ p h. h), (plain-ok insn.Pushfq refl, (plain-ok insn.Popfq refl, (rm_reg-ok (λ w rm reg. insn.Alu alu.Add w rm (source.Reg reg)) (alu-rm alu.Add), (rm_reg-ok (λ w rm reg. insn.Alu alu.Or w rm (source.Reg reg)) (alu-rm alu.Or), (rm_reg-ok (λ w rm reg. insn.Alu alu.And w rm (source.Reg reg)) (alu-rm alu.And), (rm_reg-ok (λ w rm reg. insn.Alu alu.Sub w rm (source.Reg reg)) (alu-rm alu.Sub), (rm_reg-ok (λ w rm reg. insn.Alu alu.Xor w rm (source.Reg reg)) (alu-rm alu.Xor), (rm_reg-ok (λ w rm reg. insn.Alu alu.Cmp w rm (source.Reg reg)) (alu-rm alu.Cmp), (reg_rm-ok (λ w reg rm. insn.Alu alu.Add w (place.Reg reg) (source_of rm)) (alu-reg alu.Add), (reg_rm-ok (λ w reg rm. insn.Alu alu.Or w (place.Reg reg) (source_of rm)) (alu-reg alu.Or), (reg_rm-ok (λ w reg rm. insn.Alu alu.And w (place.Reg reg) (source_of rm)) (alu-reg alu.And), (reg_rm-ok (λ w reg rm. insn.Alu alu.Sub w (place.Reg reg) (source_of rm)) (alu-reg alu.Sub), (reg_rm-ok (λ w reg rm. insn.Alu alu.Xor w (place.Reg reg) (source_of rm)) (alu-reg alu.Xor), (reg_rm-ok (λ w reg rm. insn.Alu alu.Cmp w (place.Reg reg) (source_of rm)) (alu-reg alu.Cmp), (rm_imm-ok alu_imm ib group-alu, (rm_imm-ok alu_imm id group-alu, (rm_reg-ok (λ w rm reg. insn.«Test» w rm (source.Reg reg)) (λ w p r a b c. and-true _ _ a (and-true _ _ b c)), (rm_imm-ok (only 0 insn.«Test») id group-test, (rax_imm-ok, (rm_byte_imm-ok, (al_imm-ok, (jcc-ok ib, (relative-ok insn.Jmp ib (λ t. refl), (relative-ok insn.Jmp id (λ t. refl), (relative-ok insn.Call id (λ t. refl), (plain-ok insn.Ret refl, (plain_w-ok insn.Iretq refl, (plain-ok insn.Cli refl, (plain-ok insn.Sti refl, (plain-ok insn.Cld refl, (plain-ok insn.Nop refl, tt)))))))))))))))))))))))))))))))))))))))))))
+one-ok = (rm_reg-ok (λ w rm reg. insn.Mov w rm (source.Reg reg)) mov-rm, (reg_rm-ok (λ w reg rm. insn.Mov w (place.Reg reg) (source_of rm)) mov-reg, (rm_imm-ok (only 0 insn.Mov) id group-mov, (register_imm-ok, (address-ok, (rm_reg-ok insn.Xchg (λ w p r a b c. and_from _ _ a (and_from _ _ b c)), (opcode-ok (λ r. insn.Push (source.Reg r)) (λ r h. h), (imm_quad-ok ib, (imm_quad-ok id, (rm_quad-ok 6 (λ rm. insn.Push (source_of rm)) push-rm, (opcode-ok (λ r. insn.Pop (place.Reg r)) (λ r h. h), (rm_quad-ok 0 insn.Pop (λ p h. h), (plain-ok insn.Pushfq refl, (plain-ok insn.Popfq refl, (rm_reg-ok (λ w rm reg. insn.Alu alu.Add w rm (source.Reg reg)) (alu-rm alu.Add), (rm_reg-ok (λ w rm reg. insn.Alu alu.Or w rm (source.Reg reg)) (alu-rm alu.Or), (rm_reg-ok (λ w rm reg. insn.Alu alu.And w rm (source.Reg reg)) (alu-rm alu.And), (rm_reg-ok (λ w rm reg. insn.Alu alu.Sub w rm (source.Reg reg)) (alu-rm alu.Sub), (rm_reg-ok (λ w rm reg. insn.Alu alu.Xor w rm (source.Reg reg)) (alu-rm alu.Xor), (rm_reg-ok (λ w rm reg. insn.Alu alu.Cmp w rm (source.Reg reg)) (alu-rm alu.Cmp), (reg_rm-ok (λ w reg rm. insn.Alu alu.Add w (place.Reg reg) (source_of rm)) (alu-reg alu.Add), (reg_rm-ok (λ w reg rm. insn.Alu alu.Or w (place.Reg reg) (source_of rm)) (alu-reg alu.Or), (reg_rm-ok (λ w reg rm. insn.Alu alu.And w (place.Reg reg) (source_of rm)) (alu-reg alu.And), (reg_rm-ok (λ w reg rm. insn.Alu alu.Sub w (place.Reg reg) (source_of rm)) (alu-reg alu.Sub), (reg_rm-ok (λ w reg rm. insn.Alu alu.Xor w (place.Reg reg) (source_of rm)) (alu-reg alu.Xor), (reg_rm-ok (λ w reg rm. insn.Alu alu.Cmp w (place.Reg reg) (source_of rm)) (alu-reg alu.Cmp), (rm_imm-ok alu_imm ib group-alu, (rm_imm-ok alu_imm id group-alu, (rm_reg-ok (λ w rm reg. insn.«Test» w rm (source.Reg reg)) (λ w p r a b c. and_from _ _ a (and_from _ _ b c)), (rm_imm-ok (only 0 insn.«Test») id group-test, (rax_imm-ok, (rm_byte_imm-ok, (al_imm-ok, (jcc-ok ib, (relative-ok insn.Jmp ib (λ t. refl), (relative-ok insn.Jmp id (λ t. refl), (relative-ok insn.Call id (λ t. refl), (plain-ok insn.Ret refl, (plain_w-ok insn.Iretq refl, (plain-ok insn.Cli refl, (plain-ok insn.Sti refl, (plain-ok insn.Cld refl, (plain-ok insn.Nop refl, tt)))))))))))))))))))))))))))))))))))))))))))
 
 two-ok : RowsOk two_byte
 unfolding two_byte
