@@ -1,5 +1,7 @@
 //! Tests of values: what they stand for, their order and joins, and those that are made.
 
+ghost use Rattle.std.specs.Prelude.{◌<◌, ◌^◌};
+
 use crate::{Sym, Value, ValueEnv};
 use kc_bits::Bits;
 use kc_lattice::{Both, Domain, Meaning, Row, join_all};
@@ -75,7 +77,9 @@ fn stands_by_symbol_bits_and_place(rt: HostRuntime) {
     }
 }
 
-fn based(offset: i64, stacks: u32) -> Value {
+fn based(offset: i64, stacks: u32) -> Value
+    requires { stacks < 2 ^ 17 }
+{
     Value {
         sym: Sym::Base(offset),
         bits: Value::top().bits,
@@ -83,7 +87,9 @@ fn based(offset: i64, stacks: u32) -> Value {
     }
 }
 
-fn plain(bits: Bits, stacks: u32) -> Value {
+fn plain(bits: Bits, stacks: u32) -> Value
+    requires { stacks < 2 ^ 17 }
+{
     Value {
         sym: Sym::Plain,
         bits,
