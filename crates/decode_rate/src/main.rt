@@ -3,18 +3,18 @@
 #![tactic(auto)]
 
 ghost use Rattle.std.specs.Prelude.{◌≤◌, length, drop};
-ghost use Rattle.kc_decode.specs.Begins.{HasFront};
+ghost use Rattle.kc_decode.specs.Begins.{HasSpelledPrefix};
 ghost use Rattle.decode_rate.specs.Run.{AreInstructions};
 
 use kc_decode::decode;
 use std::{env, fs, io};
 
-/// How many instructions follow each other at the front, and how many bytes they have.
+/// How many instructions follow each other from the start, and how many bytes they have.
 fn count(bytes: &[u8]) -> (usize, usize)
     ensures within { result.1 ≤ length bytes.now }
     ensures counted { AreInstructions bytes.now result.0 result.1 }
-    // No instruction begins behind them.
-    ensures ended { ¬ (HasFront (drop result.1 bytes.now) result.1) }
+    // No instruction begins after them.
+    ensures ended { ¬ (HasSpelledPrefix (drop result.1 bytes.now) result.1) }
 {
     let mut instructions = 0usize;
     let mut at = 0usize;

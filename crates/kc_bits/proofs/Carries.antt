@@ -1,4 +1,6 @@
 -- A bit of a sum, by the carry into it.
+-- The sum is split at bit i: what lies below carries 0 or 1 into it, and the bit is the sum of both bits and the carry,
+-- modulo 2. By the division of both operands by 2 ^ i; omega adds up the quotients.
 use Rattle.std.proofs.Common.{◌≡◌, ℕ, ◌+◌, ◌*◌, ◌/◌, ◌%◌, ◌^◌, ◌<◌, ◌≤◌, arith, ap, ◌∙◌}
 use Rattle.std.proofs.Math.Nat.{add-mul-div_right}
 use Rattle.std.proofs.Math.Pow.{shr_mono}
@@ -25,11 +27,13 @@ bit_at-add a b i =
     let qb : ℕ = b / 2 ^ i in
     let low : ℕ = a % 2 ^ i + b % 2 ^ i in
     let split : a + b ≡ low + (qa + qb) * 2 ^ i = omega (arith, shr_split a i, shr_split b i) in
-    let high : (a + b) / 2 ^ i ≡ low / 2 ^ i + (qa + qb) = ap (λ (n : ℕ). n / 2 ^ i) split ∙ add-mul-div_right low (qa + qb) (pow_pos i) in
+    let high : (a + b) / 2 ^ i ≡ low / 2 ^ i + (qa + qb) = ap (λ (n : ℕ). n / 2 ^ i) split
+    ∙ add-mul-div_right low (qa + qb) (pow_pos i) in
     omega (arith, high)
 
 -- a sum between two sums that agree at bit i agrees with them there, where the operands do
-pub bit_at-add_between : (v x g w y h i : ℕ) → v % 2 ^ i ≤ x % 2 ^ i → x % 2 ^ i ≤ g % 2 ^ i → w % 2 ^ i ≤ y % 2 ^ i → y % 2 ^ i ≤ h % 2 ^ i →
+pub bit_at-add_between : (v x g w y h i : ℕ) → v % 2 ^ i ≤ x % 2 ^ i → x % 2 ^ i ≤ g % 2 ^ i → w % 2 ^ i ≤ y % 2 ^ i
+    → y % 2 ^ i ≤ h % 2 ^ i →
     bit_at v i ≡ bit_at x i → bit_at g i ≡ bit_at x i → bit_at w i ≡ bit_at y i → bit_at h i ≡ bit_at y i →
     bit_at (v + w) i ≡ bit_at (g + h) i → bit_at (x + y) i ≡ bit_at (v + w) i
 bit_at-add_between v x g w y h i vx xg wy yh ev eg ew eh same =

@@ -1,4 +1,6 @@
 -- The low bits of an operand: what is known of them is sound and monotone.
+-- Bit by bit: below the width a bit of the cut is the operand's own, above it the bit is known to be 0. Both laws
+-- follow from the same two cases of the bit's index.
 use Rattle.std.proofs.Common.{◌≡◌, ℕ, ◌+◌, ◌-◌, ◌*◌, ◌%◌, ◌^◌, ◌<◌, ◌≤◌, true, bit_and, bit_or, arith, refl, sym, ap, ◌∙◌, inl, inr, lit≤}
 use Rattle.std.proofs.lemmas.Bool.{cases_lt}
 use Rattle.std.proofs.lemmas.Nat.{or_disjoint, and_mod, mod_below, pow_pos}
@@ -34,16 +36,20 @@ module _ (n : ℕ) (h : n ≤ 64) (low : ℕ) (fits : low < 2 ^ n) where
 
   pub bit_at-cut_sum : (i : ℕ) → i < n → bit_at (low + (2 ^ 64 - 2 ^ n)) i ≡ bit_at low i
   bit_at-cut_sum i k =
-      ap (λ (x : ℕ). bit_at x i) (sym cut_sum) ∙ bit_at_or low (2 ^ 64 - 2 ^ n) i ∙ omega (arith, bit_at_mask_below n 64 i k)
+      ap (λ (x : ℕ). bit_at x i) (sym cut_sum) ∙ bit_at_or low (2 ^ 64 - 2 ^ n) i
+      ∙ omega (arith, bit_at_mask_below n 64 i k)
 
 low_fits : (x n : ℕ) → x % 2 ^ n < 2 ^ n
 low_fits x n = mod_below x (2 ^ n) (pow_pos n)
 
 -- the zeros of a cut, as they are computed
-pub cut_zeros : (w : Width) (z : ℕ) → bit_or (cut w z) (flipped (cut w (2 ^ 64 - 1))) ≡ z % 2 ^ bits_of w + (2 ^ 64 - 2 ^ bits_of w)
-cut_zeros w z = ap (bit_or (cut w z)) (high_mask w) ∙ cut_sum (bits_of w) (bits_in_range w).1 (z % 2 ^ bits_of w) (low_fits z (bits_of w))
+pub cut_zeros : (w : Width) (z : ℕ)
+    → bit_or (cut w z) (flipped (cut w (2 ^ 64 - 1))) ≡ z % 2 ^ bits_of w + (2 ^ 64 - 2 ^ bits_of w)
+cut_zeros w z = ap (bit_or (cut w z)) (high_mask w)
+    ∙ cut_sum (bits_of w) (bits_in_range w).1 (z % 2 ^ bits_of w) (low_fits z (bits_of w))
 
-pub cut_apart : (w : Width) (b : KnownBits) → IsValid b → bit_and (bits_cut (bits_of w) b).zeros (bits_cut (bits_of w) b).ones ≡ 0
+pub cut_apart : (w : Width) (b : KnownBits) → IsValid b
+    → bit_and (bits_cut (bits_of w) b).zeros (bits_cut (bits_of w) b).ones ≡ 0
 cut_apart w b h =
     let n : ℕ = bits_of w in
     let zeros : ℕ = (bits_cut n b).zeros in
@@ -53,7 +59,14 @@ cut_apart w b h =
     bit_at_and zeros ones i
     ∙ elim (cases_lt i n) [
       | inl k ↦
-          omega (arith, bit_at-cut_sum n range.1 (b.zeros % 2 ^ n) (low_fits b.zeros n) i k, bit_at-mod b.zeros n i k, bit_at-mod b.ones n i k, apart_bits b h i, bit_at-zero i)
+          omega (
+            arith,
+            bit_at-cut_sum n range.1 (b.zeros % 2 ^ n) (low_fits b.zeros n) i k,
+            bit_at-mod b.zeros n i k,
+            bit_at-mod b.ones n i k,
+            apart_bits b h i,
+            bit_at-zero i,
+          )
       | inr k ↦ omega (arith, bit_at_above ones n i (low_fits b.ones n) k, bit_at-zero i)
     ])
 
@@ -64,8 +77,11 @@ cut_sound w b x s = λ i.
     elim (cases_lt i n) [
       | inl k ↦
           let same = bit_at-mod x n i k in
-          let z = bit_at-cut_sum n range.1 (b.zeros % 2 ^ n) (low_fits b.zeros n) i k in
-          (λ e. same ∙ (s i).0 (sym (bit_at-mod b.zeros n i k) ∙ sym z ∙ e), λ e. same ∙ (s i).1 (sym (bit_at-mod b.ones n i k) ∙ e))
+          let z = bit_at-cut_sum n range.1 (b.zeros % 2 ^ n) (low_fits b.zeros n) i k in (
+            λ e. same ∙ (s i).0 (sym (bit_at-mod b.zeros n i k) ∙ sym z ∙ e),
+            λ e. same
+                ∙ (s i).1 (sym (bit_at-mod b.ones n i k) ∙ e),
+          )
       | inr k ↦ (
         λ e. bit_at_above (x % 2 ^ n) n i (low_fits x n) k,
         λ e. absurd (omega (arith, e, bit_at_above (b.ones % 2 ^ n) n i (low_fits b.ones n) k)),
@@ -75,16 +91,20 @@ cut_sound w b x s = λ i.
 has_mod : (x y n : ℕ) → Has x y → Has (x % 2 ^ n) (y % 2 ^ n)
 has_mod x y n h = sym (and_mod x y n) ∙ ap (λ (v : ℕ). v % 2 ^ n) h
 
-pub cut_monotone : (w : Width) (a b : KnownBits) → is_below a b ≡ true → is_below (bits_cut (bits_of w) a) (bits_cut (bits_of w) b) ≡ true
+pub cut_monotone : (w : Width) (a b : KnownBits) → is_below a b ≡ true
+    → is_below (bits_cut (bits_of w) a) (bits_cut (bits_of w) b) ≡ true
 cut_monotone w a b h =
     let n : ℕ = bits_of w in
     let m : ℕ = 2 ^ 64 - 2 ^ n in
     let range = bits_in_range w in
     let p = below_facts a b h in
-    let sum_a : bit_or (a.zeros % 2 ^ n) m ≡ (bits_cut n a).zeros = cut_sum n range.1 (a.zeros % 2 ^ n) (low_fits a.zeros n) in
-    let sum_b : bit_or (b.zeros % 2 ^ n) m ≡ (bits_cut n b).zeros = cut_sum n range.1 (b.zeros % 2 ^ n) (low_fits b.zeros n) in
+    let sum_a : bit_or (a.zeros % 2 ^ n) m ≡ (bits_cut n a).zeros =
+    cut_sum n range.1 (a.zeros % 2 ^ n) (low_fits a.zeros n) in
+    let sum_b : bit_or (b.zeros % 2 ^ n) m ≡ (bits_cut n b).zeros =
+    cut_sum n range.1 (b.zeros % 2 ^ n) (low_fits b.zeros n) in
     let joined : Has (bit_or (a.zeros % 2 ^ n) m) (bit_or (b.zeros % 2 ^ n) m) =
     has_or (a.zeros % 2 ^ n) m (b.zeros % 2 ^ n) m (has_mod a.zeros b.zeros n p.zeros) (and_self m) in
     below_from (bits_cut n a) (bits_cut n b)
-    (ap (λ (x : ℕ). bit_and x (bits_cut n b).zeros) (sym sum_a) ∙ ap (bit_and (bit_or (a.zeros % 2 ^ n) m)) (sym sum_b) ∙ joined ∙ sum_b)
+    (ap (λ (x : ℕ). bit_and x (bits_cut n b).zeros) (sym sum_a) ∙ ap (bit_and (bit_or (a.zeros % 2 ^ n) m)) (sym sum_b)
+    ∙ joined ∙ sum_b)
     (has_mod a.ones b.ones n p.ones)

@@ -1,4 +1,6 @@
 -- Masks of known bits: what each says of a word that it stands for.
+-- A word has the known zeros and ones exactly where each of its bits has them; equations between words come from
+-- equations between all their bits. The lemmas go from masks to bits and back, so that the rest can speak of bits.
 use Rattle.std.proofs.Common.{◌≡◌, ℕ, ◌+◌, ◌-◌, ◌%◌, ◌^◌, ◌<◌, ◌≤◌, min, max, true, bit_and, bit_or, arith, sym, ap, ◌∙◌, inl, inr, ◌⊎◌}
 use Rattle.std.proofs.lemmas.Bool.{cases_lt}
 use Rattle.std.proofs.lemmas.Nat.{and_mod, and_le_l, or_disjoint, or_lt}
@@ -45,8 +47,10 @@ ones-unknown b h =
     let fits : bit_or b.zeros b.ones < 2 ^ 64 = mask_fits b h in
     omega (arith, sum, fits)
 
-pub bit_at-unknown : (b : KnownBits) (i : ℕ) → IsValid b → i < 64 → bit_at (unknown b) i ≡ 1 - max (bit_at b.zeros i) (bit_at b.ones i)
-bit_at-unknown b i h k = bit_at-flipped (bit_or b.zeros b.ones) i (mask_fits b h) k ∙ ap (λ (v : ℕ). 1 - v) (bit_at_or b.zeros b.ones i)
+pub bit_at-unknown : (b : KnownBits) (i : ℕ) → IsValid b → i < 64
+    → bit_at (unknown b) i ≡ 1 - max (bit_at b.zeros i) (bit_at b.ones i)
+bit_at-unknown b i h k = bit_at-flipped (bit_or b.zeros b.ones) i (mask_fits b h) k
+    ∙ ap (λ (v : ℕ). 1 - v) (bit_at_or b.zeros b.ones i)
 
 pub least_stands : (b : KnownBits) → IsValid b → StandsFor b b.ones
 least_stands b h = λ i.
@@ -103,7 +107,8 @@ known_alike b n i h s k known =
     ]
 
 -- what is known above is known below
-pub unknown_kept : (a b : KnownBits) (i : ℕ) → IsValid a → IsValid b → is_below a b ≡ true → i < 64 → bit_at (unknown b) i ≡ 0 → bit_at (unknown a) i ≡ 0
+pub unknown_kept : (a b : KnownBits) (i : ℕ) → IsValid a → IsValid b → is_below a b ≡ true → i < 64
+    → bit_at (unknown b) i ≡ 0 → bit_at (unknown a) i ≡ 0
 unknown_kept a b i ha hb below k known =
     let m = below_facts a b below in
     let u = bit_at-unknown b i hb k in
@@ -117,7 +122,8 @@ unknown_kept a b i ha hb below k known =
 
 module _ (p u : ℕ) (hp : p < 2 ^ 64) (hu : u < 2 ^ 64) where
   pub bit_at-known_but : (i : ℕ) → i < 64 →
-      (bit_at (known_but p u).zeros i ≡ min (1 - bit_at p i) (1 - bit_at u i)) × (bit_at (known_but p u).ones i ≡ min (bit_at p i) (1 - bit_at u i))
+      (bit_at (known_but p u).zeros i ≡ min (1 - bit_at p i) (1 - bit_at u i))
+      × (bit_at (known_but p u).ones i ≡ min (bit_at p i) (1 - bit_at u i))
   bit_at-known_but i k =
       let ep = bit_at-flipped p i hp k in
       let eu = bit_at-flipped u i hu k in
@@ -141,7 +147,8 @@ module _ (p u : ℕ) (hp : p < 2 ^ 64) (hu : u < 2 ^ 64) where
       }
 
   -- it stands for each number that has p's bits outside u
-  pub known_but-stands : (n : ℕ) → ((i : ℕ) → i < 64 → bit_at u i ≡ 0 → bit_at n i ≡ bit_at p i) → StandsFor (known_but p u) n
+  pub known_but-stands : (n : ℕ) → ((i : ℕ) → i < 64 → bit_at u i ≡ 0 → bit_at n i ≡ bit_at p i)
+      → StandsFor (known_but p u) n
   known_but-stands n same = λ i.
       elim (cases_lt i 64) [
         | inl k ↦
@@ -162,7 +169,8 @@ module _ (p u : ℕ) (hp : p < 2 ^ 64) (hu : u < 2 ^ 64) where
 
 -- the order, where what is known above is known below with the same bits
 pub known_but-below : (p u p' u' : ℕ) → p < 2 ^ 64 → u < 2 ^ 64 → p' < 2 ^ 64 → u' < 2 ^ 64 →
-    ((i : ℕ) → i < 64 → bit_at u' i ≡ 0 → (bit_at u i ≡ 0) × (bit_at p i ≡ bit_at p' i)) → is_below (known_but p u) (known_but p' u') ≡ true
+    ((i : ℕ) → i < 64 → bit_at u' i ≡ 0 → (bit_at u i ≡ 0) × (bit_at p i ≡ bit_at p' i))
+    → is_below (known_but p u) (known_but p' u') ≡ true
 known_but-below p u p' u' hp hu hp' hu' kept =
     let h = known_but-valid p' u' hp' hu' in
     below_from (known_but p u) (known_but p' u')
@@ -190,11 +198,13 @@ known_but-below p u p' u' hp hu hp' hu' kept =
 -- the two tests of a word against the masks
 pub stands_from_masks : (b : KnownBits) (n : ℕ) → bit_and n b.zeros ≡ 0 → bit_and n b.ones ≡ b.ones → StandsFor b n
 stands_from_masks b n h k = λ i.
-    let e : min (bit_at n i) (bit_at b.zeros i) ≡ 0 = sym (bit_at_and n b.zeros i) ∙ ap (λ (v : ℕ). bit_at v i) h ∙ bit_at-zero i in
+    let e : min (bit_at n i) (bit_at b.zeros i) ≡ 0 = sym (bit_at_and n b.zeros i) ∙ ap (λ (v : ℕ). bit_at v i) h
+    ∙ bit_at-zero i in
     (λ z. omega (arith, e, z), λ o. has_bit n b.ones i k o)
 
 pub masks_from_stands : (b : KnownBits) (n : ℕ) → StandsFor b n → (bit_and n b.zeros ≡ 0) × (bit_and n b.ones ≡ b.ones)
 masks_from_stands b n s =
     let none : (i : ℕ) → min (bit_at n i) (bit_at b.zeros i) ≡ bit_at 0 i =
-    λ i. elim (two (bit_at b.zeros i) (bit_at-lt b.zeros i)) [ inl e ↦ omega (arith, e, bit_at-zero i) | inr e ↦ omega (arith, (s i).0 e, bit_at-zero i) ] in
+    λ i. elim (two (bit_at b.zeros i) (bit_at-lt b.zeros i))
+    [ inl e ↦ omega (arith, e, bit_at-zero i) | inr e ↦ omega (arith, (s i).0 e, bit_at-zero i) ] in
     (same_from_bits (bit_and n b.zeros) 0 (λ i. bit_at_and n b.zeros i ∙ none i), has_from_bits n b.ones (λ i. (s i).1))

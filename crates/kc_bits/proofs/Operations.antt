@@ -1,4 +1,5 @@
 -- The three operations on single bits are sound and monotone.
+-- Each law is one on a single bit, by cases on what is known of both operands there, carried to words by Masks.
 use Rattle.std.proofs.Common.{◌≡◌, ℕ, min, max, bit_and, bit_or, bit_xor, arith, sym, ap, ◌∙◌, inl, inr}
 use Rattle.std.proofs.lemmas.Nat.Bits.{same_from_bits, bit_at_and, bit_at_or, bit_at_xor, bit_at-lt, bit_at-zero}
 use Rattle.std.specs.Int.{bit_at}
@@ -52,7 +53,9 @@ or_sound a b = λ x y hx hy s t i.
     )
 
 -- a bit of (p and q) or (r and s)
-bit_at-pairs : (p q r s i : ℕ) → bit_at (bit_or (bit_and p q) (bit_and r s)) i ≡ max (min (bit_at p i) (bit_at q i)) (min (bit_at r i) (bit_at s i))
+bit_at-pairs : (p q r s i : ℕ)
+    → bit_at (bit_or (bit_and p q) (bit_and r s)) i ≡ max (min (bit_at p i) (bit_at q i))
+    (min (bit_at r i) (bit_at s i))
 bit_at-pairs p q r s i = bit_at_or (bit_and p q) (bit_and r s) i ∙ omega (arith, bit_at_and p q i, bit_at_and r s i)
 
 pub xor_sound : (a b : KnownBits) → IsSound bit_xor a b (bits_xor a b)
@@ -69,7 +72,8 @@ xor_sound a b = λ x y hx hy s t i.
             | inr e ↦
                 elim (two (bit_at b.zeros i) (bit_at-lt b.zeros i)) [
                   | inl f ↦
-                      let p : bit_at a.ones i ≡ 1 = omega (arith, zeros, z, e, f, bit_at-lt a.ones i, bit_at-lt b.ones i) in
+                      let p : bit_at a.ones i ≡ 1 =
+                      omega (arith, zeros, z, e, f, bit_at-lt a.ones i, bit_at-lt b.ones i) in
                       absurd (omega (arith, (s i).0 e, (s i).1 p))
                   | inr f ↦ omega (arith, made, (s i).0 e, (t i).0 f)
                 ]
@@ -83,7 +87,8 @@ xor_sound a b = λ x y hx hy s t i.
             | inr e ↦
                 elim (two (bit_at b.ones i) (bit_at-lt b.ones i)) [
                   | inl f ↦
-                      let p : bit_at a.ones i ≡ 1 = omega (arith, ones, o, e, f, bit_at-lt a.ones i, bit_at-lt b.zeros i) in
+                      let p : bit_at a.ones i ≡ 1 =
+                      omega (arith, ones, o, e, f, bit_at-lt a.ones i, bit_at-lt b.zeros i) in
                       absurd (omega (arith, (s i).0 e, (s i).1 p))
                   | inr f ↦ omega (arith, made, (s i).0 e, (t i).1 f)
                 ]
@@ -94,13 +99,15 @@ pub and_monotone : (a b : KnownBits) → IsMonotoneAt bits_and a b
 and_monotone a b = λ a' b' ha hb h k.
     let p = below_facts a a' h in
     let q = below_facts b b' k in
-    below_from (bits_and a b) (bits_and a' b') (has_or a.zeros b.zeros a'.zeros b'.zeros p.zeros q.zeros) (has_and a.ones b.ones a'.ones b'.ones p.ones q.ones)
+    below_from (bits_and a b) (bits_and a' b') (has_or a.zeros b.zeros a'.zeros b'.zeros p.zeros q.zeros)
+    (has_and a.ones b.ones a'.ones b'.ones p.ones q.ones)
 
 pub or_monotone : (a b : KnownBits) → IsMonotoneAt bits_or a b
 or_monotone a b = λ a' b' ha hb h k.
     let p = below_facts a a' h in
     let q = below_facts b b' k in
-    below_from (bits_or a b) (bits_or a' b') (has_and a.zeros b.zeros a'.zeros b'.zeros p.zeros q.zeros) (has_or a.ones b.ones a'.ones b'.ones p.ones q.ones)
+    below_from (bits_or a b) (bits_or a' b') (has_and a.zeros b.zeros a'.zeros b'.zeros p.zeros q.zeros)
+    (has_or a.ones b.ones a'.ones b'.ones p.ones q.ones)
 
 pub xor_monotone : (a b : KnownBits) → IsMonotoneAt bits_xor a b
 xor_monotone a b = λ a' b' ha hb h k.
@@ -133,4 +140,11 @@ module _ (a b : KnownBits) (ha : bit_and a.zeros a.ones ≡ 0) (hb : bit_and b.z
   pub xor_apart : bit_and (bits_xor a b).zeros (bits_xor a b).ones ≡ 0
   xor_apart = same_from_bits (bit_and (bits_xor a b).zeros (bits_xor a b).ones) 0 (λ i.
       bit_at_and (bits_xor a b).zeros (bits_xor a b).ones i
-      ∙ omega (arith, bit_at-pairs a.zeros b.zeros a.ones b.ones i, bit_at-pairs a.zeros b.ones a.ones b.zeros i, left i, right i, bit_at-zero i))
+      ∙ omega (
+        arith,
+        bit_at-pairs a.zeros b.zeros a.ones b.ones i,
+        bit_at-pairs a.zeros b.ones a.ones b.zeros i,
+        left i,
+        right i,
+        bit_at-zero i,
+      ))

@@ -1,4 +1,6 @@
 -- The bits in which all addresses of a span agree.
+-- The ends of a span differ at a highest bit: above it both have the same quotient, and so has each address between
+-- them, since division keeps order. Below it nothing is known. omega is left the two quotients.
 use Rattle.std.proofs.Common.{◌≡◌, ℕ, ◌+◌, ◌-◌, ◌*◌, ◌/◌, ◌%◌, ◌^◌, ◌<◌, ◌≤◌, bit_xor, arith, sym, ap, ◌∙◌, subst, inl, inr, lit≤, add-zero}
 use Rattle.std.proofs.lemmas.Bool.{cases_lt}
 use Rattle.std.proofs.lemmas.Nat.{shr-shr, shr_high, pow-add, xor_shr, shr_split, pow_pos, leading_length, xor_lt, mod_below}
@@ -19,7 +21,8 @@ same_from_xor x y h = same_from_bits x y (λ i.
 
 -- a bit from m on is one of the number without its low m bits
 bit_at-shr : (x m i : ℕ) → m ≤ i → bit_at x i ≡ bit_at (x / 2 ^ m) (i - m)
-bit_at-shr x m i h = ap (λ (v : ℕ). bit_at v i) (sym (shr_split x m)) ∙ bit_at_cat_high (x / 2 ^ m) m (x % 2 ^ m) i (mod_below x (2 ^ m) (pow_pos m)) h
+bit_at-shr x m i h = ap (λ (v : ℕ). bit_at v i) (sym (shr_split x m))
+    ∙ bit_at_cat_high (x / 2 ^ m) m (x % 2 ^ m) i (mod_below x (2 ^ m) (pow_pos m)) h
 
 module _ (from last m : ℕ) (low : bit_xor from last < 2 ^ m) where
   same_high : from / 2 ^ m ≡ last / 2 ^ m
@@ -54,7 +57,8 @@ differs f l k i le high top h =
       | inl under ↦
           let zero_bit : bit_at (upper * p) i ≡ 0 =
           ap (λ (n : ℕ). bit_at n i) (sym (add-zero (upper * p))) ∙ bit_at_cat_low upper k 0 i under ∙ bit_at-zero i in
-          let one_bit : bit_at (lower * p + (p - 1)) i ≡ 1 = bit_at_cat_low lower k (p - 1) i under ∙ bit_at_ones k i under in (
+          let one_bit : bit_at (lower * p + (p - 1)) i ≡ 1 = bit_at_cat_low lower k (p - 1) i under
+          ∙ bit_at_ones k i under in (
             upper * p,
             lower * p + (p - 1),
             (omega (arith, split_f, split_l, small, edge), omega (arith, split_l)),
@@ -63,8 +67,15 @@ differs f l k i le high top h =
             one_bit,
           )
       | inr above ↦
-          let same : i ≡ k = omega arith in
-          (f, l, (omega arith, le), (le, omega arith), ap (bit_at f) same ∙ even, ap (bit_at l) same ∙ omega (arith, even, odd))
+          let same : i ≡ k = omega arith in (
+            f,
+            l,
+            (omega arith, le),
+            (le, omega arith),
+            ap (bit_at f) same ∙ even,
+            ap (bit_at l) same
+                ∙ omega (arith, even, odd),
+          )
     ]
 
 -- the number of bits from 0 to the highest 1
@@ -120,13 +131,15 @@ module _ (s : Range) (h : s.from < s.to) (fits : s.to < 2 ^ 64) where
         let m : ℕ = bits_open - 1 in
         let whole : m + 1 ≡ bits_open = omega arith in
         let below : differing < 2 ^ (m + 1) = subst (λ (n : ℕ). differing < 2 ^ n) (sym whole) length_is.below in
-        let long : 2 ^ (m + 1) ≤ 2 * differing + 1 = subst (λ (n : ℕ). 2 ^ n ≤ 2 * differing + 1) (sym whole) length_is.long in
+        let long : 2 ^ (m + 1) ≤ 2 * differing + 1 =
+        subst (λ (n : ℕ). 2 ^ n ≤ 2 * differing + 1) (sym whole) length_is.long in
         let double : 2 ^ (m + 1) ≡ 2 ^ m * 2 = pow-add 2 m 1 in
         let rest : ℕ = differing - 2 ^ m in
         let split : 1 * 2 ^ m + rest ≡ differing = omega (arith, long, double) in
         let small : rest < 2 ^ m = omega (arith, below, double, split) in
         let shifted : differing / 2 ^ m ≡ 1 = ap (λ (n : ℕ). n / 2 ^ m) (sym split) ∙ shr_high 1 m rest small in
         let top : bit_at differing m ≡ 1 = ap (λ (n : ℕ). n % 2) shifted in
-        let r = differs s.from last m i (omega arith) (same_high s.from last (m + 1) below) top (omega (arith, whole, under)) in
+        let r = differs s.from last m i (omega arith) (same_high s.from last (m + 1) below) top
+        (omega (arith, whole, under)) in
         (r.0, r.1, (r.2.0, omega (arith, r.2.1)), (r.3.0, omega (arith, r.3.1)), r.4, r.5)
   ]

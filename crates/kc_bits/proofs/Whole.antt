@@ -1,4 +1,4 @@
--- Known bits that leave one word.
+-- Known bits that leave one word: where no bit is open, two words with these bits agree in each of them.
 use Rattle.std.proofs.Common.{◌≡◌, ℕ, ◌^◌, ◌<◌, bit_and, arith, sym, ap, ◌∙◌, inl, inr}
 use Rattle.std.proofs.lemmas.Bool.{cases_lt}
 use Rattle.std.proofs.lemmas.Nat.Bits.{same_from_bits, same_from_bits_below, bit_at_and, bit_at-zero, bit_at-lt, bit_at_above}

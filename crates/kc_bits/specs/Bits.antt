@@ -23,7 +23,8 @@ IsOnly b v = StandsFor b v × ((n : ℕ) → n < 2 ^ 64 → StandsFor b n → n 
 
 -- the lesser one knows at least the bits of the greater
 abbrev pub is_below : KnownBits → KnownBits → Bool
-is_below lesser greater = (bit_and lesser.zeros greater.zeros == greater.zeros) && (bit_and lesser.ones greater.ones == greater.ones)
+is_below lesser greater =
+    (bit_and lesser.zeros greater.zeros == greater.zeros) && (bit_and lesser.ones greater.ones == greater.ones)
 
 -- bits that are known alike on both sides
 abbrev pub bits_joined : KnownBits → KnownBits → KnownBits
@@ -82,7 +83,8 @@ bits_add a b =
 abbrev pub bits_sub : KnownBits → KnownBits → KnownBits
 bits_sub a b =
     let p : ℕ = word (a.ones + (2 ^ 64 - b.ones)) in
-    known_but p (bit_or (bit_or (bit_xor (word (p + unknown a)) (word (p + (2 ^ 64 - unknown b)))) (unknown a)) (unknown b))
+    known_but p (bit_or (bit_or (bit_xor (word (p + unknown a)) (word (p + (2 ^ 64 - unknown b)))) (unknown a))
+    (unknown b))
 
 -- the low n bits of b, with 0 above them
 abbrev pub bits_cut : ℕ → KnownBits → KnownBits
@@ -103,5 +105,6 @@ IsSound f a b r = (x y : ℕ) → x < 2 ^ 64 → y < 2 ^ 64 → StandsFor a x �
 -- of greater operands the result is greater
 abbrev pub IsMonotoneAt : (KnownBits → KnownBits → KnownBits) → KnownBits → KnownBits → Type 0
 IsMonotoneAt op a b =
-    (greater_a greater_b : KnownBits) → IsValid greater_a → IsValid greater_b → is_below a greater_a ≡ true → is_below b greater_b ≡ true →
+    (greater_a greater_b : KnownBits) → IsValid greater_a → IsValid greater_b → is_below a greater_a ≡ true
+    → is_below b greater_b ≡ true →
     is_below (op a b) (op greater_a greater_b) ≡ true

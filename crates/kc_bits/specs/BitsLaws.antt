@@ -52,11 +52,17 @@ pub record IsBelow (x y : KnownBits) : Type 0 where
 pub below_facts : (x y : KnownBits) → is_below x y ≡ true → IsBelow x y
 below_facts x y h =
     let p = and_parts (bit_and x.zeros y.zeros == y.zeros) (bit_and x.ones y.ones == y.ones) h in
-    record { zeros = eqb-true (bit_and x.zeros y.zeros) y.zeros p.0; ones = eqb-true (bit_and x.ones y.ones) y.ones p.1 }
+    record {
+      zeros = eqb-true (bit_and x.zeros y.zeros) y.zeros p.0;
+      ones =
+          eqb-true (bit_and x.ones y.ones) y.ones p.1;
+    }
 
-pub below_from : (x y : KnownBits) → bit_and x.zeros y.zeros ≡ y.zeros → bit_and x.ones y.ones ≡ y.ones → is_below x y ≡ true
+pub below_from : (x y : KnownBits) → bit_and x.zeros y.zeros ≡ y.zeros → bit_and x.ones y.ones ≡ y.ones
+    → is_below x y ≡ true
 below_from x y h k =
-    and_from (bit_and x.zeros y.zeros == y.zeros) (bit_and x.ones y.ones == y.ones) (eq-eqb (bit_and x.zeros y.zeros) y.zeros h)
+    and_from (bit_and x.zeros y.zeros == y.zeros) (bit_and x.ones y.ones == y.ones)
+    (eq-eqb (bit_and x.zeros y.zeros) y.zeros h)
     (eq-eqb (bit_and x.ones y.ones) y.ones k)
 
 pub same_bits : (x y : KnownBits) → x.zeros ≡ y.zeros → x.ones ≡ y.ones → x ≡ y
@@ -68,7 +74,12 @@ bits_join_valid x y hx hy =
     let below_ones : bit_and x.ones y.ones ≤ x.ones = and_le_l x.ones y.ones in
     let zeros : x.zeros < 2 ^ 64 = hx.zeros_fit in
     let ones : x.ones < 2 ^ 64 = hx.ones_fit in
-    record { zeros_fit = omega arith; ones_fit = omega arith; apart = apart_parts x.zeros x.ones y.zeros y.ones hx.apart }
+    record {
+      zeros_fit = omega arith;
+      ones_fit = omega arith;
+      apart =
+          apart_parts x.zeros x.ones y.zeros y.ones hx.apart;
+    }
 
 bits_rank_falls : (x y : KnownBits) → is_below x y ≡ true → (y.zeros ≤ x.zeros) × (y.ones ≤ x.ones)
 bits_rank_falls x y h =
@@ -98,11 +109,13 @@ bits_laws = record {
   join_least = λ x y z hx hy hz h k l.
       let p = below_facts x z k in
       let q = below_facts y z l in
-      below_from (bits_joined x y) z (has_both x.zeros y.zeros z.zeros p.zeros q.zeros) (has_both x.ones y.ones z.ones p.ones q.ones);
+      below_from (bits_joined x y) z (has_both x.zeros y.zeros z.zeros p.zeros q.zeros)
+      (has_both x.ones y.ones z.ones p.ones q.ones);
   top_valid = λ x h. record { zeros_fit = lit< tt; ones_fit = lit< tt; apart = refl };
   top_above = λ x y hx hy h. below_from y nothing_known (and_zero y.zeros) (and_zero y.ones);
   rank_falls = λ x y hx hy h. let p = bits_rank_falls x y h in omega (arith, p.0, p.1);
-  rank_tied = λ x y hx hy h e. let p = bits_rank_falls x y h in same_bits x y (omega (arith, p.0, p.1, e)) (omega (arith, p.0, p.1, e));
+  rank_tied = λ x y hx hy h e. let p = bits_rank_falls x y h in
+      same_bits x y (omega (arith, p.0, p.1, e)) (omega (arith, p.0, p.1, e));
 }
 
 -- what a lesser one stands for, a greater one stands for too

@@ -189,7 +189,8 @@ impl Bits {
     pub fn cut(&self, width: Width) -> Bits
         ensures value { result ≡ bits_cut (bits_of width) self.now }
         ensures sound { (x : ℕ) → x < 2 ^ 64 → StandsFor self.now x → StandsFor result (cut width x) }
-        ensures monotone { (b : KnownBits) → IsValid b → is_below self.now b ≡ true → is_below result (bits_cut (bits_of width) b) ≡ true }
+        ensures monotone { (b : KnownBits) → IsValid b → is_below self.now b ≡ true
+            → is_below result (bits_cut (bits_of width) b) ≡ true }
     {
         self.tell();
         let above = !width.cut(u64::MAX);

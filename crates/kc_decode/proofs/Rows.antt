@@ -1,4 +1,5 @@
--- Prefixes and opcodes are read exactly as the grammar has them.
+-- The rows of the tables: each form of a row begins something, and which prefixes the forms of a table permit. A walk
+-- over the rows in their order, carried to the form that an opcode looks up by induction on the rows.
 use Rattle.std.proofs.Common.{◌≡◌, ℕ, zero, suc, ◌+◌, ◌-◌, ◌*◌, ◌/◌, ◌%◌, ◌<◌, ◌≤◌, Bool, true, false, not, ◌&&◌, ◌||◌, eqb, ltb, leb, List, [], ◌∷◌, Option, Some, None, ◌⊎◌, inl, inr, refl, sym, ap, subst, ◌∙◌, arith, lit<, mul-zero, mul-one}
 use Rattle.std.proofs.lemmas.Bool.{eqb-true, ltb-true, leb-true, and_parts, or_cases}
 use Rattle.kc_insn.specs.declared.insn.Insn.TheVariants as insn
@@ -8,7 +9,8 @@ use Rattle.kc_insn.specs.Fields.{worth, IsRex, r_bit}
 use Rattle.kc_insn.specs.Table.{Form, rm_reg, rm_bit, Row, row, rows, lookup, one_byte, two_byte, two_byte_f3, bit_of}
 use Rattle.kc_insn.specs.Spells.{has_rm, has_reg, has_register, has_width, needs_w, permits, permits_rex}
 use Rattle.kc_decode.specs.Reading.{is_rex, rex_of}
-use Rattle.kc_insn.proofs.Encoded.{chosen}
+use Rattle.kc_rules.proofs.TestLemmas.{chosen}
+use Rattle.kc_insn.proofs.Encoded.{◌also◌}
 use Rattle.kc_decode.proofs.Tails.{is_live}
 
 -- ---- the rows of a table
@@ -19,7 +21,8 @@ RowsAll p [] = Unit {0}
 RowsAll p (row key form ∷ rest) = (p form ≡ true) × RowsAll p rest
 RowsAll p (rows first count form ∷ rest) = ((k : ℕ) → p (form k) ≡ true) × RowsAll p rest
 
-pub lookup-all : (p : Form → Bool) (rs : List Row) (op : ℕ) (form : Form) → RowsAll p rs → lookup op rs ≡ Some form → p form ≡ true
+pub lookup-all : (p : Form → Bool) (rs : List Row) (op : ℕ) (form : Form) → RowsAll p rs → lookup op rs ≡ Some form
+    → p form ≡ true
 lookup-all p [] op form all e = absurd cc
 lookup-all p (row key f ∷ rest) op form all e =
     elim (chosen (eqb op key) (Some f) (lookup op rest) (Some form) e) [
@@ -36,7 +39,8 @@ lookup-all p (rows first count f ∷ rest) op form all e =
 abbrev pub keys_apart : List Row → Bool
 keys_apart [] = true
 keys_apart (row key form ∷ rest) = (ltb key 64 || leb 80 key) && (ltb key 256 && keys_apart rest)
-keys_apart (rows first count form ∷ rest) = (leb (first + count) 64 || leb 80 first) && (leb (first + count) 256 && keys_apart rest)
+keys_apart (rows first count form ∷ rest) =
+    (leb (first + count) 64 || leb 80 first) && (leb (first + count) 256 && keys_apart rest)
 
 abbrev pub Apart : ℕ → Type 0
 Apart op = ((op < 64) ⊎ (80 ≤ op)) × (op < 256)
@@ -44,13 +48,18 @@ Apart op = ((op < 64) ⊎ (80 ≤ op)) × (op < 256)
 pub row-apart : (key : ℕ) (rest : Bool) → ((ltb key 64 || leb 80 key) && (ltb key 256 && rest)) ≡ true → Apart key
 row-apart key rest h =
     let a = (and_parts (ltb key 64 || leb 80 key) (ltb key 256 && rest) h).0 in
-    let b = (and_parts (ltb key 256) rest (and_parts (ltb key 64 || leb 80 key) (ltb key 256 && rest) h).1).0 in
-    (elim (or_cases (ltb key 64) (leb 80 key) a) [ inl l ↦ inl (ltb-true key 64 l) | inr r ↦ inr (leb-true 80 key r) ], ltb-true key 256 b)
+    let b = (and_parts (ltb key 256) rest (and_parts (ltb key 64 || leb 80 key) (ltb key 256 && rest) h).1).0 in (
+      elim (or_cases (ltb key 64) (leb 80 key) a) [ inl l ↦ inl (ltb-true key 64 l) | inr r ↦ inr (leb-true 80 key r) ],
+      ltb-true key 256 b,
+    )
 
-pub rows-apart : (first count op : ℕ) (rest : Bool) → ((leb (first + count) 64 || leb 80 first) && (leb (first + count) 256 && rest)) ≡ true → first ≤ op → op < first + count → Apart op
+pub rows-apart : (first count op : ℕ) (rest : Bool)
+    → ((leb (first + count) 64 || leb 80 first) && (leb (first + count) 256 && rest)) ≡ true → first ≤ op
+    → op < first + count → Apart op
 rows-apart first count op rest h ge lt =
     let a = (and_parts (leb (first + count) 64 || leb 80 first) (leb (first + count) 256 && rest) h).0 in
-    let b = (and_parts (leb (first + count) 256) rest (and_parts (leb (first + count) 64 || leb 80 first) (leb (first + count) 256 && rest) h).1).0 in
+    let b = (and_parts (leb (first + count) 256) rest
+    (and_parts (leb (first + count) 64 || leb 80 first) (leb (first + count) 256 && rest) h).1).0 in
     let top : first + count ≤ 256 = leb-true (first + count) 256 b in (
       elim (or_cases (leb (first + count) 64) (leb 80 first) a) [
         | inl l ↦ let below : first + count ≤ 64 = leb-true (first + count) 64 l in inl (omega arith)
@@ -64,12 +73,16 @@ lookup-apart [] op form all e = absurd cc
 lookup-apart (row key f ∷ rest) op form all e =
     elim (chosen (eqb op key) (Some f) (lookup op rest) (Some form) e) [
       | inl h ↦ subst Apart (sym (eqb-true op key h.0)) (row-apart key (keys_apart rest) all)
-      | inr h ↦ lookup-apart rest op form (and_parts (ltb key 256) (keys_apart rest) (and_parts (ltb key 64 || leb 80 key) (ltb key 256 && keys_apart rest) all).1).1 h.1
+      | inr h ↦ lookup-apart rest op form (and_parts (ltb key 256) (keys_apart rest)
+          (and_parts (ltb key 64 || leb 80 key) (ltb key 256 && keys_apart rest) all).1).1 h.1
     ]
 lookup-apart (rows first count f ∷ rest) op form all e =
     elim (chosen (leb first op && ltb op (first + count)) (Some (f (op - first))) (lookup op rest) (Some form) e) [
-      | inl h ↦ rows-apart first count op (keys_apart rest) all (leb-true first op (and_parts (leb first op) (ltb op (first + count)) h.0).0) (ltb-true op (first + count) (and_parts (leb first op) (ltb op (first + count)) h.0).1)
-      | inr h ↦ lookup-apart rest op form (and_parts (leb (first + count) 256) (keys_apart rest) (and_parts (leb (first + count) 64 || leb 80 first) (leb (first + count) 256 && keys_apart rest) all).1).1 h.1
+      | inl h ↦ rows-apart first count op (keys_apart rest) all
+          (leb-true first op (and_parts (leb first op) (ltb op (first + count)) h.0).0)
+          (ltb-true op (first + count) (and_parts (leb first op) (ltb op (first + count)) h.0).1)
+      | inr h ↦ lookup-apart rest op form (and_parts (leb (first + count) 256) (keys_apart rest)
+          (and_parts (leb (first + count) 64 || leb 80 first) (leb (first + count) 256 && keys_apart rest) all).1).1 h.1
     ]
 
 pub one-apart : (op : ℕ) (form : Form) → lookup op one_byte ≡ Some form → Apart op
@@ -86,28 +99,39 @@ f3-apart op form e = lookup-apart two_byte_f3 op form refl e
 
 pub one-live : (op : ℕ) (form : Form) → lookup op one_byte ≡ Some form → is_live form ≡ true
 unfolding one_byte
-one-live op form e = lookup-all is_live one_byte op form (refl, (refl, (refl, (λ k. refl, (refl, (refl, (λ k. refl, (refl, (refl, (refl, (λ k. refl, (refl, (refl, (refl, (refl, (refl, (refl, (refl, (refl, (refl, (refl, (refl, (refl, (refl, (refl, (refl, (refl, (refl, (refl, (refl, (refl, (refl, (refl, (λ k. refl, (refl, (refl, (refl, (refl, (refl, (refl, (refl, (refl, (refl, tt))))))))))))))))))))))))))))))))))))))))))) e
+one-live op form e = lookup-all is_live one_byte op form
+    (refl also refl also refl also (λ k. refl) also refl also refl also (λ k. refl) also refl also refl also
+    refl also (λ k. refl) also refl also refl also refl also refl also refl also refl also refl also refl also
+    refl also refl also refl also refl also refl also refl also refl also refl also refl also refl also refl also
+    refl also refl also refl also (λ k. refl) also refl also refl also refl also refl also refl also refl also
+    refl also refl also refl also tt) e
 
 pub two-live : (op : ℕ) (form : Form) → lookup op two_byte ≡ Some form → is_live form ≡ true
 unfolding two_byte
-two-live op form e = lookup-all is_live two_byte op form (refl, (λ k. refl, (refl, (refl, (refl, (refl, (refl, (refl, (refl, (refl, (refl, tt))))))))))) e
+two-live op form e = lookup-all is_live two_byte op form
+    (refl also (λ k. refl) also refl also refl also refl also refl also refl also refl also refl also refl also
+    refl also tt) e
 
 pub f3-live : (op : ℕ) (form : Form) → lookup op two_byte_f3 ≡ Some form → is_live form ≡ true
 unfolding two_byte_f3
-f3-live op form e = lookup-all is_live two_byte_f3 op form (refl, (refl, tt)) e
+f3-live op form e = lookup-all is_live two_byte_f3 op form
+    (refl also refl also tt) e
 
--- behind 0F no form has a register in field reg
+-- after 0F no form has a register in field reg
 pub two-no_reg : (op : ℕ) (form : Form) → lookup op two_byte ≡ Some form → not (has_reg form) ≡ true
 unfolding two_byte
-two-no_reg op form e = lookup-all (λ f. not (has_reg f)) two_byte op form (refl, (λ k. refl, (refl, (refl, (refl, (refl, (refl, (refl, (refl, (refl, (refl, tt))))))))))) e
+two-no_reg op form e = lookup-all (λ f. not (has_reg f)) two_byte op form
+    (refl also (λ k. refl) also refl also refl also refl also refl also refl also refl also refl also refl also
+    refl also tt) e
 
--- behind F3 REX.W alone, with REX.B or not, may stand
+-- after F3 REX.W alone, with REX.B or not, may stand
 abbrev pub f3_form : Form → Bool
 f3_form f = not (has_reg f) && (not (has_rm f) && (needs_w f || (not (has_width f) && not (has_register f))))
 
 pub f3-forms : (op : ℕ) (form : Form) → lookup op two_byte_f3 ≡ Some form → f3_form form ≡ true
 unfolding two_byte_f3
-f3-forms op form e = lookup-all f3_form two_byte_f3 op form (refl, (refl, tt)) e
+f3-forms op form e = lookup-all f3_form two_byte_f3 op form
+    (refl also refl also tt) e
 
 pub escape-no_row : lookup 0x0F one_byte ≡ None
 unfolding one_byte
@@ -179,8 +203,12 @@ bit-rex false false false = refl
 pub bit-permits : (gs : Bool) (rex : Option Rex) → r_bit rex ≡ false → permits (rm_bit bit_of) gs rex ≡ true
 bit-permits true None e = refl
 bit-permits false None e = refl
-bit-permits true (Some rex) e = ap (λ (r : Bool). permits_rex (rm_bit bit_of) (Some (record { w = rex.w; r = r; x = rex.x; b = rex.b }))) e ∙ bit-rex rex.w rex.x rex.b
-bit-permits false (Some rex) e = ap (λ (r : Bool). permits_rex (rm_bit bit_of) (Some (record { w = rex.w; r = r; x = rex.x; b = rex.b }))) e ∙ bit-rex rex.w rex.x rex.b
+bit-permits true (Some rex) e =
+    ap (λ (r : Bool). permits_rex (rm_bit bit_of) (Some (record { w = rex.w; r = r; x = rex.x; b = rex.b }))) e
+    ∙ bit-rex rex.w rex.x rex.b
+bit-permits false (Some rex) e =
+    ap (λ (r : Bool). permits_rex (rm_bit bit_of) (Some (record { w = rex.w; r = r; x = rex.x; b = rex.b }))) e
+    ∙ bit-rex rex.w rex.x rex.b
 
 -- ---- the REX byte
 
@@ -197,13 +225,15 @@ rex-bytes b h =
     let r = worth-bit (b / 4 % 2) 4 (omega arith) in
     let x = worth-bit (b / 2 % 2) 2 (omega arith) in
     let z = worth-bit (b % 2) 1 (omega arith) in
-    let whole_byte : b ≡ 64 + worth (eqb (b / 8 % 2) 1) 8 + worth (eqb (b / 4 % 2) 1) 4 + worth (eqb (b / 2 % 2) 1) 2 + worth (eqb (b % 2) 1) 1 = omega (arith, w, r, x, z) in
+    let whole_byte : b ≡ 64 + worth (eqb (b / 8 % 2) 1) 8 + worth (eqb (b / 4 % 2) 1) 4 + worth (eqb (b / 2 % 2) 1)
+    2 + worth (eqb (b % 2) 1) 1 = omega (arith, w, r, x, z) in
     ap (λ (k : ℕ). k ∷ []) whole_byte
 
 abbrev pub rex_byte : Rex → ℕ
 rex_byte rex = 64 + worth rex.w 8 + worth rex.r 4 + worth rex.x 2 + worth rex.b 1
 
-pub rex-back : (w r x b : Bool) → let rex : Rex = record { w = w; r = r; x = x; b = b } in (is_rex (rex_byte rex) ≡ true) × (rex_of (rex_byte rex) ≡ rex) × (rex_byte rex < 80)
+pub rex-back : (w r x b : Bool) → let rex : Rex = record { w = w; r = r; x = x; b = b } in
+    (is_rex (rex_byte rex) ≡ true) × (rex_of (rex_byte rex) ≡ rex) × (rex_byte rex < 80)
 rex-back true true true true = (refl, refl, lit< tt)
 rex-back true true true false = (refl, refl, lit< tt)
 rex-back true true false true = (refl, refl, lit< tt)

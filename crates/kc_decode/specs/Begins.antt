@@ -7,9 +7,9 @@ use Rattle.kc_insn.specs.Spells.{Spells, SpellsUnbounded}
 abbrev pub IsProperPrefix : List ℕ → ℕ → Type 0
 IsProperPrefix bytes at = (more : List ℕ) × (insn : Insn) × (0 < length more) × Spells (bytes ++ more) at insn
 
--- a front of the bytes is an instruction's spelling
-abbrev pub HasFront : List ℕ → ℕ → Type 0
-HasFront bytes at = (n : ℕ) × (insn : Insn) × (n ≤ length bytes) × Spells (take n bytes) at insn
+-- a prefix of the bytes is an instruction's spelling
+abbrev pub HasSpelledPrefix : List ℕ → ℕ → Type 0
+HasSpelledPrefix bytes at = (n : ℕ) × (insn : Insn) × (n ≤ length bytes) × Spells (take n bytes) at insn
 
 -- one of these holds without the bound of fifteen bytes
 abbrev pub BeginsUnbounded : List ℕ → ℕ → Type 0

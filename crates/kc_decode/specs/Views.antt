@@ -22,6 +22,8 @@ use Rattle.kc_decode.specs.declared.form.Size.TheVariants.{One, Four}
 use Rattle.kc_decode.specs.declared.form.Pair.{Pair}
 use Rattle.kc_decode.specs.declared.form.Pair.TheVariants as pair
 use Rattle.kc_decode.specs.declared.form.Group.{Group}
+use Rattle.kc_decode.specs.declared.operand.ImmOp.{ImmOp}
+use Rattle.kc_decode.specs.declared.operand.ImmOp.TheVariants as imm_op
 use Rattle.kc_decode.specs.declared.form.Group.TheVariants as group
 use Rattle.kc_decode.specs.declared.form.Last.{Last}
 use Rattle.kc_decode.specs.declared.form.Last.TheVariants as last
@@ -34,13 +36,20 @@ abbrev pub size_of : Size → fields.Size
 size_of One = fields.ib
 size_of Four = fields.id
 
+abbrev pub imm_op_of : ImmOp → Width → Place → Source → Insn
+imm_op_of imm_op.Mov = insn.Mov
+imm_op_of imm_op.«Test» = insn.«Test»
+imm_op_of (imm_op.Alu op) = insn.Alu op
+
 abbrev pub group_of : Group → ℕ → Option (Width → Place → Source → Insn)
 group_of group.Mov = only 0 insn.Mov
 group_of group.«Test» = only 0 insn.«Test»
 group_of group.Alu = alu_imm
 
 abbrev pub last_of : Last → ℕ → Option Insn
-last_of last.System = λ b. if b == 0xF8 then Some insn.Swapgs else if b == 0xCA then Some insn.Clac else if b == 0xCB then Some insn.Stac else None
+last_of last.System =
+    λ b. if b == 0xF8 then Some insn.Swapgs else if b == 0xCA then Some insn.Clac else if b == 0xCB then Some insn.Stac
+    else None
 last_of last.Lfence = only 0xE8 insn.Lfence
 last_of last.Endbr64 = only 0xFA insn.Endbr64
 
@@ -73,7 +82,8 @@ form_of form.PushRm = table.rm_quad 6 (λ rm. insn.Push (source_of rm))
 form_of form.PopRm = table.rm_quad 0 insn.Pop
 form_of form.ReadCr3 = table.rm_register (only 3 insn.ReadCr3)
 form_of form.WriteCr3 = table.rm_register (only 3 insn.WriteCr3)
-form_of form.GsBase = table.rm_register_w (λ n. if n == 1 then Some insn.ReadGs else if n == 3 then Some insn.WriteGs else None)
+form_of form.GsBase =
+    table.rm_register_w (λ n. if n == 1 then Some insn.ReadGs else if n == 3 then Some insn.WriteGs else None)
 form_of form.Nop = table.rm_unused
 form_of (form.PushImm size) = table.imm_quad (size_of size)
 form_of form.TestRax = table.rax_imm

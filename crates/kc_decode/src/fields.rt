@@ -4,47 +4,47 @@
 ghost use Rattle.std.specs.Prelude.{◌≡◌, ◌+◌, ◌<◌};
 ghost use Rattle.kc_reading.specs.Reading.{byte_at, number_at};
 ghost use Rattle.kc_insn.specs.Fields.{w_bit, r_bit, x_bit, b_bit, extended as extended_register, width_of as rex_width, worth};
-ghost use Rattle.kc_decode.specs.declared.fault.DecodeFault.TheVariants.{Short};
-ghost use Rattle.kc_decode.specs.Reading.{Gives};
+ghost use Rattle.kc_decode.specs.declared.fault.DraftFault.TheVariants.{Short};
+ghost use Rattle.kc_rules.specs.Rules.{GivesExactly};
 
-use crate::fault::DecodeFault;
+use crate::fault::DraftFault;
 use kc_insn::{Reg, Rex};
 use kc_words::Width;
 
 /// The first byte.
-pub fn byte(bytes: &[u8]) -> Result<(u8, &[u8]), DecodeFault>
-    ensures { Gives (λ x. (x.0, x.1.now)) result (byte_at Short bytes.now) }
+pub fn byte(bytes: &[u8]) -> Result<(u8, &[u8]), DraftFault>
+    ensures { GivesExactly (λ x. (x.0, x.1.now)) result (byte_at Short bytes.now) }
 {
     match bytes {
-        [] => Err(DecodeFault::Short),
+        [] => Err(DraftFault::Short),
         [first, rest @ ..] => Ok((*first, rest)),
     }
 }
 
 /// A number of one byte.
-pub fn number1(bytes: &[u8]) -> Result<(u8, &[u8]), DecodeFault>
-    ensures { Gives (λ x. (x.0, x.1.now)) result (number_at Short 1 bytes.now) }
+pub fn number1(bytes: &[u8]) -> Result<(u8, &[u8]), DraftFault>
+    ensures { GivesExactly (λ x. (x.0, x.1.now)) result (number_at Short 1 bytes.now) }
 {
     byte(bytes)
 }
 
 /// A number of four bytes.
-pub fn number4(bytes: &[u8]) -> Result<(u32, &[u8]), DecodeFault>
-    ensures { Gives (λ x. (x.0, x.1.now)) result (number_at Short 4 bytes.now) }
+pub fn number4(bytes: &[u8]) -> Result<(u32, &[u8]), DraftFault>
+    ensures { GivesExactly (λ x. (x.0, x.1.now)) result (number_at Short 4 bytes.now) }
 {
     match bytes.split_first_chunk::<4>() {
         Some((number, rest)) => Ok((u32::from_le_bytes(*number), rest)),
-        None => Err(DecodeFault::Short),
+        None => Err(DraftFault::Short),
     }
 }
 
 /// A number of eight bytes.
-pub fn number8(bytes: &[u8]) -> Result<(u64, &[u8]), DecodeFault>
-    ensures { Gives (λ x. (x.0, x.1.now)) result (number_at Short 8 bytes.now) }
+pub fn number8(bytes: &[u8]) -> Result<(u64, &[u8]), DraftFault>
+    ensures { GivesExactly (λ x. (x.0, x.1.now)) result (number_at Short 8 bytes.now) }
 {
     match bytes.split_first_chunk::<8>() {
         Some((number, rest)) => Ok((u64::from_le_bytes(*number), rest)),
-        None => Err(DecodeFault::Short),
+        None => Err(DraftFault::Short),
     }
 }
 

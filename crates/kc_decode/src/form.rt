@@ -1,17 +1,17 @@
-//! Forms of instructions: what stands behind an opcode, and what it makes (Intel SDM vol. 2,
+//! Forms of instructions: what stands after an opcode, and what it makes (Intel SDM vol. 2,
 //! "Instruction Format").
 
 use kc_insn::{AluOp, Insn};
 
 /// How many bytes an immediate or a jump's distance takes.
-#[derive(Clone, Copy, PartialEq, Eq, Debug)]
+#[derive(Clone, Copy)]
 pub enum Size {
     One,
     Four,
 }
 
 /// Instructions of an operand rm and a register.
-#[derive(Clone, Copy, PartialEq, Eq, Debug)]
+#[derive(Clone, Copy)]
 pub enum Pair {
     Mov,
     Xchg,
@@ -20,7 +20,7 @@ pub enum Pair {
 }
 
 /// Instructions of an operand rm and an immediate.
-#[derive(Clone, Copy, PartialEq, Eq, Debug)]
+#[derive(Clone, Copy)]
 pub enum Group {
     /// C7 /0.
     Mov,
@@ -31,18 +31,18 @@ pub enum Group {
 }
 
 /// Opcodes of which the last byte says which instruction they are.
-#[derive(Clone, Copy, PartialEq, Eq, Debug)]
+#[derive(Clone, Copy)]
 pub enum Last {
-    /// Behind 0F 01.
+    /// After 0F 01.
     System,
-    /// Behind 0F AE.
+    /// After 0F AE.
     Lfence,
-    /// Behind F3 0F 1E.
+    /// After F3 0F 1E.
     Endbr64,
 }
 
 /// Where a jump goes on.
-#[derive(Clone, Copy, PartialEq, Eq, Debug)]
+#[derive(Clone, Copy)]
 pub enum Jump {
     /// At its target, under the condition of this code.
     If(u8),
@@ -52,8 +52,8 @@ pub enum Jump {
     Call,
 }
 
-/// What stands behind an opcode, and what it makes.
-#[derive(Clone, Copy, PartialEq, Eq, Debug)]
+/// What stands after an opcode, and what it makes.
+#[derive(Clone, Copy)]
 pub enum Form {
     /// Nothing.
     Plain(Insn),

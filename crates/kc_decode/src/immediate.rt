@@ -3,9 +3,10 @@
 ghost use Rattle.std.specs.Prelude.{◌≡◌};
 ghost use Rattle.kc_insn.specs.Fields.{immediate as immediate_of, ib, id};
 ghost use Rattle.kc_decode.specs.Views.{size_of};
-ghost use Rattle.kc_decode.specs.Reading.{Gives, imm_at};
+ghost use Rattle.kc_rules.specs.Rules.{GivesExactly};
+ghost use Rattle.kc_decode.specs.Reading.{imm_at};
 
-use crate::fault::DecodeFault;
+use crate::fault::DraftFault;
 use crate::fields::{number1, number4};
 use crate::form::Size;
 use kc_words::Width;
@@ -31,8 +32,8 @@ fn of_four_bytes(w: Width, number: u32) -> i64
 
 /// The immediate of an operand.
 #[tactic(auto, unfolding(crate::specs::Reading::imm_at))]
-pub fn immediate(w: Width, size: Size, bytes: &[u8]) -> Result<(i64, &[u8]), DecodeFault>
-    ensures { Gives (λ x. (x.0, x.1.now)) result (imm_at w (size_of size) bytes.now) }
+pub fn immediate(w: Width, size: Size, bytes: &[u8]) -> Result<(i64, &[u8]), DraftFault>
+    ensures { GivesExactly (λ x. (x.0, x.1.now)) result (imm_at w (size_of size) bytes.now) }
 {
     match size {
         Size::One => {

@@ -70,7 +70,7 @@ fn least_escape(x: bool, bytes: &[u8]) -> usize
     }
 }
 
-/// The least number of bytes of a long NOP that begins so, behind its padding.
+/// The least number of bytes of a long NOP that begins so, after its padding.
 fn least_nop(bytes: &[u8]) -> usize
     ensures is { result ≡ nop_length bytes.now }
     ensures small { result ≤ 9 }
@@ -129,8 +129,6 @@ pub fn fits(bytes: &[u8]) -> bool
                         }
                     }
                 }
-            } else if *b == 0x2E {
-                least_nop(rest) < MAX_LENGTH
             } else {
                 true
             }

@@ -16,6 +16,3 @@ mod tail;
 
 pub use decoder::{decode, one_reading};
 pub use fault::DecodeFault;
-
-#[cfg(test)]
-mod tests;

@@ -1,19 +1,19 @@
 //! ModRM, SIB and displacement in 64-bit mode (Intel SDM vol. 2, "ModR/M and SIB Bytes").
 
-ghost use Rattle.std.specs.Prelude.{◌≡◌, ◌<◌, ◌^◌, is_some, option_map, IfOk};
+ghost use Rattle.std.specs.Prelude.{◌≡◌, ◌<◌, ◌^◌, option_map, IfOk};
 ghost use Rattle.kc_insn.specs.Fields.{disp_bytes, base_of as memory_base, index_of as sib_index};
 ghost use Rattle.kc_insn.specs.Table.{alu_of, bit_of};
-ghost use Rattle.kc_decode.specs.Views.{disp_of, form_of, group_of};
-ghost use Rattle.kc_decode.specs.Reading.{Gives, disp_at, sib_at, no_sib_at, memory_at, rm_at, operand_at, mode_field, reg_field, rm_field, takes_modrm as form_takes};
+ghost use Rattle.kc_decode.specs.Views.{disp_of, form_of, group_of, imm_op_of};
+ghost use Rattle.kc_rules.specs.Rules.{GivesExactly};
+ghost use Rattle.kc_decode.specs.Reading.{disp_at, sib_at, no_sib_at, memory_at, rm_at, operand_at, mode_field, reg_field, rm_field, takes_modrm as form_takes};
 
-use crate::fault::DecodeFault;
+use crate::fault::DraftFault;
 use crate::fields::{byte, extended, number1, number4, rex_b, rex_x};
 use crate::form::{Form, Group};
-use kc_insn::{AluOp, Base, BitOp, Insn, Mem, Place, Reg, Rex, Source};
-use kc_words::Width;
+use kc_insn::{AluOp, Base, BitOp, Mem, Place, Reg, Rex};
 
 /// How many bytes a displacement takes.
-#[derive(Clone, Copy, PartialEq, Eq, Debug)]
+#[derive(Clone, Copy)]
 pub enum Disp {
     Absent,
     One,
@@ -21,7 +21,7 @@ pub enum Disp {
 }
 
 /// The prefixes before an opcode.
-#[derive(Clone, Copy, PartialEq, Eq, Debug)]
+#[derive(Clone, Copy)]
 pub struct Head {
     /// The prefix 65 stands.
     pub gs: bool,
@@ -40,10 +40,10 @@ fn disp_size(mode: u8, field: u8) -> Disp
     }
 }
 
-/// The displacement of this size that stands at the front, as a signed number, and what follows it.
+/// The displacement of this size that the bytes begin with, as a signed number, and what follows it.
 #[tactic(auto, unfolding(crate::specs::Reading::disp_at))]
-pub fn displacement(size: Disp, bytes: &[u8]) -> Result<(i32, &[u8]), DecodeFault>
-    ensures { Gives (λ x. (x.0, x.1.now)) result (disp_at (disp_of size) bytes.now) }
+pub fn displacement(size: Disp, bytes: &[u8]) -> Result<(i32, &[u8]), DraftFault>
+    ensures { GivesExactly (λ x. (x.0, x.1.now)) result (disp_at (disp_of size) bytes.now) }
 {
     match size {
         Disp::Absent => Ok((0, bytes)),
@@ -56,6 +56,14 @@ pub fn displacement(size: Disp, bytes: &[u8]) -> Result<(i32, &[u8]), DecodeFaul
             Ok((number.cast_signed(), rest))
         }
     }
+}
+
+/// An instruction of an operand rm and an immediate.
+#[derive(Clone, Copy)]
+pub enum ImmOp {
+    Mov,
+    Test,
+    Alu(AluOp),
 }
 
 fn base_of(special: Base, rex: Option<Rex>, mode: u8, field: u8) -> Base
@@ -98,8 +106,8 @@ fn index_of(rex: Option<Rex>, scale: u8, index: u8) -> Option<(Reg, u8)>
 }
 
 #[tactic(auto, unfolding(crate::specs::Reading::sib_at))]
-fn sib(head: Head, mode: u8, bytes: &[u8]) -> Result<(Mem, &[u8]), DecodeFault>
-    ensures { Gives (λ x. (x.0, x.1.now)) result (sib_at head.gs head.rex mode bytes.now) }
+fn sib(head: Head, mode: u8, bytes: &[u8]) -> Result<(Mem, &[u8]), DraftFault>
+    ensures { GivesExactly (λ x. (x.0, x.1.now)) result (sib_at head.gs head.rex mode bytes.now) }
 {
     let (sib, rest) = byte(bytes)?;
     let (disp, rest) = displacement(disp_size(mode, sib % 8), rest)?;
@@ -117,9 +125,9 @@ fn sib(head: Head, mode: u8, bytes: &[u8]) -> Result<(Mem, &[u8]), DecodeFault>
 }
 
 #[tactic(auto, unfolding(crate::specs::Reading::no_sib_at))]
-fn no_sib(head: Head, mode: u8, rm: u8, bytes: &[u8]) -> Result<(Mem, &[u8]), DecodeFault>
+fn no_sib(head: Head, mode: u8, rm: u8, bytes: &[u8]) -> Result<(Mem, &[u8]), DraftFault>
     requires { rm < 8 }
-    ensures { Gives (λ x. (x.0, x.1.now)) result (no_sib_at head.gs head.rex mode rm bytes.now) }
+    ensures { GivesExactly (λ x. (x.0, x.1.now)) result (no_sib_at head.gs head.rex mode rm bytes.now) }
 {
     let (disp, rest) = displacement(disp_size(mode, rm), bytes)?;
     let base = base_of(Base::Rip, head.rex, mode, rm);
@@ -134,28 +142,30 @@ fn no_sib(head: Head, mode: u8, rm: u8, bytes: &[u8]) -> Result<(Mem, &[u8]), De
     ))
 }
 
+/// A memory operand after a ModRM byte with these fields.
 #[tactic(auto, unfolding(crate::specs::Reading::memory_at))]
-fn memory(head: Head, mode: u8, rm: u8, bytes: &[u8]) -> Result<(Mem, &[u8]), DecodeFault>
+pub fn memory(head: Head, mode: u8, rm: u8, bytes: &[u8]) -> Result<(Mem, &[u8]), DraftFault>
     requires { rm < 8 }
-    ensures { Gives (λ x. (x.0, x.1.now)) result (memory_at head.gs head.rex mode rm bytes.now) }
+    ensures { GivesExactly (λ x. (x.0, x.1.now)) result (memory_at head.gs head.rex mode rm bytes.now) }
 {
     if rm == 4 {
         sib(head, mode, bytes)
     } else if rex_x(head.rex) {
-        Err(DecodeFault::Unknown)
+        Err(DraftFault::Unknown)
     } else {
         no_sib(head, mode, rm, bytes)
     }
 }
 
+/// An operand rm after a ModRM byte with these fields.
 #[tactic(auto, unfolding(crate::specs::Reading::rm_at))]
-fn rm_operand(head: Head, mode: u8, rm: u8, bytes: &[u8]) -> Result<(Place, &[u8]), DecodeFault>
+pub fn rm_operand(head: Head, mode: u8, rm: u8, bytes: &[u8]) -> Result<(Place, &[u8]), DraftFault>
     requires { rm < 8 }
-    ensures { Gives (λ x. (x.0, x.1.now)) result (rm_at head.gs head.rex mode rm bytes.now) }
+    ensures { GivesExactly (λ x. (x.0, x.1.now)) result (rm_at head.gs head.rex mode rm bytes.now) }
 {
     if mode == 3 {
         if head.gs || rex_x(head.rex) {
-            return Err(DecodeFault::Unknown);
+            return Err(DraftFault::Unknown);
         }
         return Ok((Place::Reg(extended(rex_b(head.rex), rm)), bytes));
     }
@@ -190,23 +200,14 @@ pub fn bit_op(reg: u8) -> Option<BitOp>
     }
 }
 
-fn group_has(group: Group, reg: u8) -> bool
-    ensures { result ≡ is_some (group_of group reg) }
+/// The instruction of a group that the reg field selects.
+pub fn imm_op(group: Group, reg: u8) -> Option<ImmOp>
+    ensures { option_map imm_op_of result ≡ group_of group reg }
 {
     match group {
-        Group::Mov | Group::Test => reg == 0,
-        Group::Alu => alu_op(reg).is_some(),
-    }
-}
-
-/// The instruction of a group by the reg field.
-pub fn group_insn(group: Group, reg: u8, w: Width, rm: Place, source: Source) -> Option<Insn>
-    ensures { result ≡ option_map (λ make. make w rm source) (group_of group reg) }
-{
-    match group {
-        Group::Mov => (reg == 0).then_some(Insn::Mov(w, rm, source)),
-        Group::Test => (reg == 0).then_some(Insn::Test(w, rm, source)),
-        Group::Alu => alu_op(reg).map(|op| Insn::Alu(op, w, rm, source)),
+        Group::Mov => (reg == 0).then_some(ImmOp::Mov),
+        Group::Test => (reg == 0).then_some(ImmOp::Test),
+        Group::Alu => alu_op(reg).map(ImmOp::Alu),
     }
 }
 
@@ -216,22 +217,17 @@ fn takes_modrm(form: Form, rex: Option<Rex>, mode: u8, reg: u8, rm: u8) -> bool
 {
     match form {
         Form::RmReg(_) | Form::MovLoad | Form::AluLoad(_) => true,
-        Form::Lea => mode != 3,
-        Form::RmImm(group, _) => group_has(group, reg),
         Form::TestByte => reg == 0 && (mode != 3 || rex.is_some() || rm < 4),
-        Form::Bit => bit_op(reg).is_some(),
         Form::PushRm => reg == 6,
         Form::PopRm | Form::Nop => reg == 0,
-        Form::ReadCr3 | Form::WriteCr3 => mode == 3 && reg == 3,
-        Form::GsBase => mode == 3 && (reg == 1 || reg == 3),
         _ => false,
     }
 }
 
 /// The reg field and the operand rm of a form.
 #[tactic(auto, unfolding(crate::specs::Reading::operand_at))]
-pub fn operand(form: Form, head: Head, bytes: &[u8]) -> Result<((u8, Place), &[u8]), DecodeFault>
-    ensures read { Gives (λ x. (x.0, x.1.now)) result (operand_at (form_of form) head.gs head.rex bytes.now) }
+pub fn operand(form: Form, head: Head, bytes: &[u8]) -> Result<((u8, Place), &[u8]), DraftFault>
+    ensures read { GivesExactly (λ x. (x.0, x.1.now)) result (operand_at (form_of form) head.gs head.rex bytes.now) }
     ensures field { IfOk result (λ x. x.0.0 < 8) }
 {
     let (modrm, rest) = byte(bytes)?;
@@ -239,7 +235,7 @@ pub fn operand(form: Form, head: Head, bytes: &[u8]) -> Result<((u8, Place), &[u
     let reg = modrm / 8 % 8;
     let rm = modrm % 8;
     if !takes_modrm(form, head.rex, mode, reg, rm) {
-        return Err(DecodeFault::Unknown);
+        return Err(DraftFault::Unknown);
     }
     let (place, rest) = rm_operand(head, mode, rm, rest)?;
     Ok(((reg, place), rest))

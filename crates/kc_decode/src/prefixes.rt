@@ -1,4 +1,5 @@
-//! Which prefixes a form takes, this project's own rule: only what an instruction uses may stand.
+//! Which prefixes a form takes, this project's own rule: 65, or a bit of REX, may be there only where the
+//! form has what it changes. REX.B may be there without effect, as before memory without a base.
 
 ghost use Rattle.std.specs.Prelude.{◌≡◌, ◌||◌, not, if◌then◌else◌};
 ghost use Rattle.kc_insn.specs.Spells.{has_rm as form_has_rm, has_reg as form_has_reg, has_register as form_has_register, has_access as form_has_access, has_width as form_has_width, needs_w as form_needs_w, permits_rex as form_permits_rex, permits as form_permits};
@@ -79,7 +80,8 @@ fn needs_w(form: Form) -> bool
 }
 
 fn permits_width(form: Form, w: bool) -> bool
-    ensures { result ≡ (if w then form_has_width (form_of form) || form_needs_w (form_of form) else not (form_needs_w (form_of form))) }
+    ensures { result
+        ≡ (if w then form_has_width (form_of form) || form_needs_w (form_of form) else not (form_needs_w (form_of form))) }
 {
     if w {
         has_width(form) || needs_w(form)

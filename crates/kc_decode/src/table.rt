@@ -7,7 +7,7 @@ ghost use Rattle.kc_decode.specs.Views.{form_of, IsInRange};
 use crate::form::{Form, Group, Jump, Last, Pair, Size};
 use kc_insn::{AluOp, Insn};
 
-/// The form behind an opcode of one byte.
+/// The form after an opcode of one byte.
 #[tactic(auto, unfolding(kc_insn::specs::Table::one_byte))]
 pub fn one_byte(op: u8) -> Option<Form>
     ensures row { option_map form_of result ≡ lookup op one_byte_rows }
@@ -61,7 +61,7 @@ pub fn one_byte(op: u8) -> Option<Form>
     })
 }
 
-/// The form behind 0F and this byte.
+/// The form after 0F and this byte.
 #[tactic(auto, unfolding(kc_insn::specs::Table::two_byte))]
 pub fn two_byte(op: u8) -> Option<Form>
     ensures row { option_map form_of result ≡ lookup op two_byte_rows }
@@ -83,7 +83,7 @@ pub fn two_byte(op: u8) -> Option<Form>
     })
 }
 
-/// The form behind F3, REX, 0F and this byte.
+/// The form after F3, REX, 0F and this byte.
 #[tactic(auto, unfolding(kc_insn::specs::Table::two_byte_f3))]
 pub fn f3_two_byte(op: u8) -> Option<Form>
     ensures row { option_map form_of result ≡ lookup op two_byte_f3 }

@@ -1,20 +1,23 @@
-//! What stands behind an opcode, form by form (Intel SDM vol. 2, "Instruction Format").
+//! What stands after an opcode, form by form (Intel SDM vol. 2, "Instruction Format").
 
 ghost use Rattle.std.specs.Prelude.{◌≡◌, ◌<◌, ◌==◌, if◌then◌else◌, option_map};
 ghost use Rattle.kc_insn.specs.Fields.{source_of as rm_source, size_bytes};
-ghost use Rattle.kc_decode.specs.Views.{form_of, draft_of, pair_of, last_of, size_of, disp_of, IsInRange};
-ghost use Rattle.kc_decode.specs.Reading.{Gives, tail_at, made as made_of};
+ghost use Rattle.kc_decode.specs.Views.{form_of, draft_of, pair_of, last_of, size_of, disp_of, imm_op_of, IsInRange};
+ghost use Rattle.kc_rules.specs.Rules.{GivesExactly};
+ghost use Rattle.kc_decode.specs.Reading.{tail_at, made as made_of, rm_imm_at, rm_bit_at};
 ghost use Rattle.kc_decode.specs.declared.form.Form.TheVariants.{LastByte, RegisterImm, RmReg, MovLoad, AluLoad, Lea as LeaForm, RmImm, TestByte, Bit as BitForm, PushRm, PopRm, Nop as NopForm, ReadCr3 as ReadCr3Form, WriteCr3 as WriteCr3Form, GsBase, PushImm, TestRax, TestAl, Relative};
-ghost use Rattle.kc_insn.specs.declared.insn.Insn.TheVariants.{Bit as InsnBit, ReadGs as InsnReadGs, WriteGs as InsnWriteGs};
-ghost use Rattle.kc_insn.specs.Table.{bit_of};
+ghost use Rattle.kc_insn.specs.declared.insn.Insn.TheVariants.{ReadGs as InsnReadGs, WriteGs as InsnWriteGs};
+ghost use Rattle.kc_insn.specs.declared.insn.Source.TheVariants.{Imm};
 
 use crate::draft::Draft;
-use crate::fault::DecodeFault;
+use crate::fault::DraftFault;
 use crate::fields::{byte, extended, number1, number4, number8, rex_b, rex_r, rex_w, width_of};
 use crate::form::{Form, Group, Jump, Last, Pair, Size};
 use crate::immediate::immediate;
-use crate::operand::{Disp, Head, bit_op, displacement, group_insn, operand};
-use kc_insn::{AluOp, Insn, Place, Reg, Source};
+use crate::operand::{
+    Disp, Head, ImmOp, bit_op, displacement, imm_op, memory, operand, rm_operand,
+};
+use kc_insn::{AluOp, BitOp, Insn, Place, Reg, Source};
 use kc_words::Width;
 
 fn source_of(place: Place) -> Source
@@ -52,27 +55,29 @@ fn last_insn(last: Last, byte: u8) -> Option<Insn>
     }
 }
 
-fn made(insn: Option<Insn>, rest: &[u8]) -> Result<(Draft, &[u8]), DecodeFault>
-    ensures { Gives (λ x. (draft_of x.0, x.1.now)) result (made_of insn rest.now) }
+fn made(insn: Option<Insn>, rest: &[u8]) -> Result<(Draft, &[u8]), DraftFault>
+    ensures { GivesExactly (λ x. (draft_of x.0, x.1.now)) result (made_of insn rest.now) }
 {
     match insn {
         Some(insn) => Ok((Draft::Whole(insn), rest)),
-        None => Err(DecodeFault::Unknown),
+        None => Err(DraftFault::Unknown),
     }
 }
 
 #[tactic(auto, unfolding(crate::specs::Reading::tail_at))]
-fn last_byte(last: Last, head: Head, bytes: &[u8]) -> Result<(Draft, &[u8]), DecodeFault>
-    ensures { Gives (λ x. (draft_of x.0, x.1.now)) result (tail_at (form_of (LastByte last)) head.gs head.rex bytes.now) }
+fn last_byte(last: Last, head: Head, bytes: &[u8]) -> Result<(Draft, &[u8]), DraftFault>
+    ensures { GivesExactly (λ x. (draft_of x.0, x.1.now)) result
+        (tail_at (form_of (LastByte last)) head.gs head.rex bytes.now) }
 {
     let (last_byte, rest) = byte(bytes)?;
     made(last_insn(last, last_byte), rest)
 }
 
 #[tactic(auto, unfolding(crate::specs::Reading::tail_at))]
-fn register_imm(r: u8, head: Head, bytes: &[u8]) -> Result<(Draft, &[u8]), DecodeFault>
+fn register_imm(r: u8, head: Head, bytes: &[u8]) -> Result<(Draft, &[u8]), DraftFault>
     requires { r < 8 }
-    ensures { Gives (λ x. (draft_of x.0, x.1.now)) result (tail_at (form_of (RegisterImm r)) head.gs head.rex bytes.now) }
+    ensures { GivesExactly (λ x. (draft_of x.0, x.1.now)) result
+        (tail_at (form_of (RegisterImm r)) head.gs head.rex bytes.now) }
 {
     let place = Place::Reg(extended(rex_b(head.rex), r));
     if rex_w(head.rex) {
@@ -92,8 +97,9 @@ fn register_imm(r: u8, head: Head, bytes: &[u8]) -> Result<(Draft, &[u8]), Decod
 }
 
 #[tactic(auto, unfolding(crate::specs::Reading::tail_at))]
-fn rm_reg(pair: Pair, head: Head, bytes: &[u8]) -> Result<(Draft, &[u8]), DecodeFault>
-    ensures { Gives (λ x. (draft_of x.0, x.1.now)) result (tail_at (form_of (RmReg pair)) head.gs head.rex bytes.now) }
+fn rm_reg(pair: Pair, head: Head, bytes: &[u8]) -> Result<(Draft, &[u8]), DraftFault>
+    ensures { GivesExactly (λ x. (draft_of x.0, x.1.now)) result
+        (tail_at (form_of (RmReg pair)) head.gs head.rex bytes.now) }
 {
     let ((reg, rm), rest) = operand(Form::RmReg(pair), head, bytes)?;
     let reg = extended(rex_r(head.rex), reg);
@@ -104,8 +110,9 @@ fn rm_reg(pair: Pair, head: Head, bytes: &[u8]) -> Result<(Draft, &[u8]), Decode
 }
 
 #[tactic(auto, unfolding(crate::specs::Reading::tail_at))]
-fn mov_load(head: Head, bytes: &[u8]) -> Result<(Draft, &[u8]), DecodeFault>
-    ensures { Gives (λ x. (draft_of x.0, x.1.now)) result (tail_at (form_of MovLoad) head.gs head.rex bytes.now) }
+fn mov_load(head: Head, bytes: &[u8]) -> Result<(Draft, &[u8]), DraftFault>
+    ensures { GivesExactly (λ x. (draft_of x.0, x.1.now)) result
+        (tail_at (form_of MovLoad) head.gs head.rex bytes.now) }
 {
     let ((reg, rm), rest) = operand(Form::MovLoad, head, bytes)?;
     let reg = Place::Reg(extended(rex_r(head.rex), reg));
@@ -116,8 +123,9 @@ fn mov_load(head: Head, bytes: &[u8]) -> Result<(Draft, &[u8]), DecodeFault>
 }
 
 #[tactic(auto, unfolding(crate::specs::Reading::tail_at))]
-fn alu_load(op: AluOp, head: Head, bytes: &[u8]) -> Result<(Draft, &[u8]), DecodeFault>
-    ensures { Gives (λ x. (draft_of x.0, x.1.now)) result (tail_at (form_of (AluLoad op)) head.gs head.rex bytes.now) }
+fn alu_load(op: AluOp, head: Head, bytes: &[u8]) -> Result<(Draft, &[u8]), DraftFault>
+    ensures { GivesExactly (λ x. (draft_of x.0, x.1.now)) result
+        (tail_at (form_of (AluLoad op)) head.gs head.rex bytes.now) }
 {
     let ((reg, rm), rest) = operand(Form::AluLoad(op), head, bytes)?;
     let reg = Place::Reg(extended(rex_r(head.rex), reg));
@@ -128,32 +136,64 @@ fn alu_load(op: AluOp, head: Head, bytes: &[u8]) -> Result<(Draft, &[u8]), Decod
 }
 
 #[tactic(auto, unfolding(crate::specs::Reading::tail_at))]
-fn lea(head: Head, bytes: &[u8]) -> Result<(Draft, &[u8]), DecodeFault>
-    ensures { Gives (λ x. (draft_of x.0, x.1.now)) result (tail_at (form_of LeaForm) head.gs head.rex bytes.now) }
+fn lea(head: Head, bytes: &[u8]) -> Result<(Draft, &[u8]), DraftFault>
+    ensures { GivesExactly (λ x. (draft_of x.0, x.1.now)) result
+        (tail_at (form_of LeaForm) head.gs head.rex bytes.now) }
 {
-    let ((reg, rm), rest) = operand(Form::Lea, head, bytes)?;
-    match rm {
-        Place::Reg(_) => Err(DecodeFault::Unknown),
-        Place::Mem(mem) => {
-            let reg = extended(rex_r(head.rex), reg);
-            Ok((Draft::Whole(Insn::Lea(width_of(head.rex), reg, mem)), rest))
+    let (modrm, rest) = byte(bytes)?;
+    if modrm / 64 == 3 {
+        return Err(DraftFault::Unknown);
+    }
+    let (mem, rest) = memory(head, modrm / 64, modrm % 8, rest)?;
+    let reg = extended(rex_r(head.rex), modrm / 8 % 8);
+    Ok((Draft::Whole(Insn::Lea(width_of(head.rex), reg, mem)), rest))
+}
+
+fn imm_insn(op: ImmOp, w: Width, rm: Place, value: i64) -> Insn
+    ensures { result ≡ imm_op_of op w rm (Imm value) }
+{
+    match op {
+        ImmOp::Mov => Insn::Mov(w, rm, Source::Imm(value)),
+        ImmOp::Test => Insn::Test(w, rm, Source::Imm(value)),
+        ImmOp::Alu(op) => Insn::Alu(op, w, rm, Source::Imm(value)),
+    }
+}
+
+/// What follows the ModRM byte that selected an instruction.
+fn rm_imm_after(
+    op: Option<ImmOp>,
+    size: Size,
+    head: Head,
+    modrm: u8,
+    bytes: &[u8],
+) -> Result<(Draft, &[u8]), DraftFault>
+    ensures { GivesExactly (λ x. (draft_of x.0, x.1.now)) result
+        (rm_imm_at (option_map imm_op_of op) (size_of size) head.gs head.rex modrm bytes.now) }
+{
+    match op {
+        None => Err(DraftFault::Unknown),
+        Some(op) => {
+            let (rm, rest) = rm_operand(head, modrm / 64, modrm % 8, bytes)?;
+            let w = width_of(head.rex);
+            let (value, rest) = immediate(w, size, rest)?;
+            Ok((Draft::Whole(imm_insn(op, w, rm, value)), rest))
         }
     }
 }
 
 #[tactic(auto, unfolding(crate::specs::Reading::tail_at))]
-fn rm_imm(group: Group, size: Size, head: Head, bytes: &[u8]) -> Result<(Draft, &[u8]), DecodeFault>
-    ensures { Gives (λ x. (draft_of x.0, x.1.now)) result (tail_at (form_of (RmImm group size)) head.gs head.rex bytes.now) }
+fn rm_imm(group: Group, size: Size, head: Head, bytes: &[u8]) -> Result<(Draft, &[u8]), DraftFault>
+    ensures { GivesExactly (λ x. (draft_of x.0, x.1.now)) result
+        (tail_at (form_of (RmImm group size)) head.gs head.rex bytes.now) }
 {
-    let ((reg, rm), rest) = operand(Form::RmImm(group, size), head, bytes)?;
-    let w = width_of(head.rex);
-    let (value, rest) = immediate(w, size, rest)?;
-    made(group_insn(group, reg, w, rm, Source::Imm(value)), rest)
+    let (modrm, rest) = byte(bytes)?;
+    rm_imm_after(imm_op(group, modrm / 8 % 8), size, head, modrm, rest)
 }
 
 #[tactic(auto, unfolding(crate::specs::Reading::tail_at))]
-fn test_byte(head: Head, bytes: &[u8]) -> Result<(Draft, &[u8]), DecodeFault>
-    ensures { Gives (λ x. (draft_of x.0, x.1.now)) result (tail_at (form_of TestByte) head.gs head.rex bytes.now) }
+fn test_byte(head: Head, bytes: &[u8]) -> Result<(Draft, &[u8]), DraftFault>
+    ensures { GivesExactly (λ x. (draft_of x.0, x.1.now)) result
+        (tail_at (form_of TestByte) head.gs head.rex bytes.now) }
 {
     let ((_, rm), rest) = operand(Form::TestByte, head, bytes)?;
     let (value, rest) = immediate(Width::Byte, Size::One, rest)?;
@@ -163,32 +203,48 @@ fn test_byte(head: Head, bytes: &[u8]) -> Result<(Draft, &[u8]), DecodeFault>
     ))
 }
 
-fn bit_insn(reg: u8, w: Width, rm: Place, bit: u8) -> Option<Insn>
-    ensures { result ≡ option_map (λ op. InsnBit op w rm bit) (bit_of reg) }
+/// What follows the ModRM byte that selected an operation.
+fn rm_bit_after(
+    op: Option<BitOp>,
+    head: Head,
+    modrm: u8,
+    bytes: &[u8],
+) -> Result<(Draft, &[u8]), DraftFault>
+    ensures { GivesExactly (λ x. (draft_of x.0, x.1.now)) result (rm_bit_at op head.gs head.rex modrm bytes.now) }
 {
-    bit_op(reg).map(|op| Insn::Bit(op, w, rm, bit))
+    match op {
+        None => Err(DraftFault::Unknown),
+        Some(op) => {
+            let (rm, rest) = rm_operand(head, modrm / 64, modrm % 8, bytes)?;
+            let (bit, rest) = number1(rest)?;
+            Ok((
+                Draft::Whole(Insn::Bit(op, width_of(head.rex), rm, bit)),
+                rest,
+            ))
+        }
+    }
 }
 
 #[tactic(auto, unfolding(crate::specs::Reading::tail_at))]
-fn rm_bit(head: Head, bytes: &[u8]) -> Result<(Draft, &[u8]), DecodeFault>
-    ensures { Gives (λ x. (draft_of x.0, x.1.now)) result (tail_at (form_of BitForm) head.gs head.rex bytes.now) }
+fn rm_bit(head: Head, bytes: &[u8]) -> Result<(Draft, &[u8]), DraftFault>
+    ensures { GivesExactly (λ x. (draft_of x.0, x.1.now)) result
+        (tail_at (form_of BitForm) head.gs head.rex bytes.now) }
 {
-    let ((reg, rm), rest) = operand(Form::Bit, head, bytes)?;
-    let (bit, rest) = number1(rest)?;
-    made(bit_insn(reg, width_of(head.rex), rm, bit), rest)
+    let (modrm, rest) = byte(bytes)?;
+    rm_bit_after(bit_op(modrm / 8 % 8), head, modrm, rest)
 }
 
 #[tactic(auto, unfolding(crate::specs::Reading::tail_at))]
-fn push_rm(head: Head, bytes: &[u8]) -> Result<(Draft, &[u8]), DecodeFault>
-    ensures { Gives (λ x. (draft_of x.0, x.1.now)) result (tail_at (form_of PushRm) head.gs head.rex bytes.now) }
+fn push_rm(head: Head, bytes: &[u8]) -> Result<(Draft, &[u8]), DraftFault>
+    ensures { GivesExactly (λ x. (draft_of x.0, x.1.now)) result (tail_at (form_of PushRm) head.gs head.rex bytes.now) }
 {
     let ((_, rm), rest) = operand(Form::PushRm, head, bytes)?;
     Ok((Draft::Whole(Insn::Push(source_of(rm))), rest))
 }
 
 #[tactic(auto, unfolding(crate::specs::Reading::tail_at))]
-fn pop_rm(head: Head, bytes: &[u8]) -> Result<(Draft, &[u8]), DecodeFault>
-    ensures { Gives (λ x. (draft_of x.0, x.1.now)) result (tail_at (form_of PopRm) head.gs head.rex bytes.now) }
+fn pop_rm(head: Head, bytes: &[u8]) -> Result<(Draft, &[u8]), DraftFault>
+    ensures { GivesExactly (λ x. (draft_of x.0, x.1.now)) result (tail_at (form_of PopRm) head.gs head.rex bytes.now) }
 {
     let ((_, rm), rest) = operand(Form::PopRm, head, bytes)?;
     Ok((Draft::Whole(Insn::Pop(rm)), rest))
@@ -196,37 +252,43 @@ fn pop_rm(head: Head, bytes: &[u8]) -> Result<(Draft, &[u8]), DecodeFault>
 
 /// Padding: the operand is read and not used.
 #[tactic(auto, unfolding(crate::specs::Reading::tail_at))]
-pub fn nop(head: Head, bytes: &[u8]) -> Result<(Draft, &[u8]), DecodeFault>
-    ensures { Gives (λ x. (draft_of x.0, x.1.now)) result (tail_at (form_of NopForm) head.gs head.rex bytes.now) }
+pub fn nop(head: Head, bytes: &[u8]) -> Result<(Draft, &[u8]), DraftFault>
+    ensures { GivesExactly (λ x. (draft_of x.0, x.1.now)) result
+        (tail_at (form_of NopForm) head.gs head.rex bytes.now) }
 {
     let (_, rest) = operand(Form::Nop, head, bytes)?;
     Ok((Draft::Whole(Insn::Nop), rest))
 }
 
 #[tactic(auto, unfolding(crate::specs::Reading::tail_at))]
-fn read_cr3(head: Head, bytes: &[u8]) -> Result<(Draft, &[u8]), DecodeFault>
-    ensures { Gives (λ x. (draft_of x.0, x.1.now)) result (tail_at (form_of ReadCr3Form) head.gs head.rex bytes.now) }
+fn read_cr3(head: Head, bytes: &[u8]) -> Result<(Draft, &[u8]), DraftFault>
+    ensures { GivesExactly (λ x. (draft_of x.0, x.1.now)) result
+        (tail_at (form_of ReadCr3Form) head.gs head.rex bytes.now) }
 {
-    let ((reg, rm), rest) = operand(Form::ReadCr3, head, bytes)?;
-    match rm {
-        Place::Reg(r) => made((reg == 3).then_some(Insn::ReadCr3(r)), rest),
-        Place::Mem(_) => Err(DecodeFault::Unknown),
+    let (modrm, rest) = byte(bytes)?;
+    if modrm / 64 != 3 {
+        return Err(DraftFault::Unknown);
     }
+    let r = extended(rex_b(head.rex), modrm % 8);
+    made((modrm / 8 % 8 == 3).then_some(Insn::ReadCr3(r)), rest)
 }
 
 #[tactic(auto, unfolding(crate::specs::Reading::tail_at))]
-fn write_cr3(head: Head, bytes: &[u8]) -> Result<(Draft, &[u8]), DecodeFault>
-    ensures { Gives (λ x. (draft_of x.0, x.1.now)) result (tail_at (form_of WriteCr3Form) head.gs head.rex bytes.now) }
+fn write_cr3(head: Head, bytes: &[u8]) -> Result<(Draft, &[u8]), DraftFault>
+    ensures { GivesExactly (λ x. (draft_of x.0, x.1.now)) result
+        (tail_at (form_of WriteCr3Form) head.gs head.rex bytes.now) }
 {
-    let ((reg, rm), rest) = operand(Form::WriteCr3, head, bytes)?;
-    match rm {
-        Place::Reg(r) => made((reg == 3).then_some(Insn::WriteCr3(r)), rest),
-        Place::Mem(_) => Err(DecodeFault::Unknown),
+    let (modrm, rest) = byte(bytes)?;
+    if modrm / 64 != 3 {
+        return Err(DraftFault::Unknown);
     }
+    let r = extended(rex_b(head.rex), modrm % 8);
+    made((modrm / 8 % 8 == 3).then_some(Insn::WriteCr3(r)), rest)
 }
 
 fn gs_insn(reg: u8, r: Reg) -> Option<Insn>
-    ensures { result ≡ option_map (λ make. make r) (if reg == 1 then Some InsnReadGs else if reg == 3 then Some InsnWriteGs else None) }
+    ensures { result ≡ option_map (λ make. make r)
+        (if reg == 1 then Some InsnReadGs else if reg == 3 then Some InsnWriteGs else None) }
 {
     if reg == 1 {
         Some(Insn::ReadGs(r))
@@ -238,27 +300,30 @@ fn gs_insn(reg: u8, r: Reg) -> Option<Insn>
 }
 
 #[tactic(auto, unfolding(crate::specs::Reading::tail_at))]
-fn gs_base(head: Head, bytes: &[u8]) -> Result<(Draft, &[u8]), DecodeFault>
-    ensures { Gives (λ x. (draft_of x.0, x.1.now)) result (tail_at (form_of GsBase) head.gs head.rex bytes.now) }
+fn gs_base(head: Head, bytes: &[u8]) -> Result<(Draft, &[u8]), DraftFault>
+    ensures { GivesExactly (λ x. (draft_of x.0, x.1.now)) result (tail_at (form_of GsBase) head.gs head.rex bytes.now) }
 {
-    let ((reg, rm), rest) = operand(Form::GsBase, head, bytes)?;
-    match rm {
-        Place::Reg(r) => made(gs_insn(reg, r), rest),
-        Place::Mem(_) => Err(DecodeFault::Unknown),
+    let (modrm, rest) = byte(bytes)?;
+    if modrm / 64 != 3 {
+        return Err(DraftFault::Unknown);
     }
+    let r = extended(rex_b(head.rex), modrm % 8);
+    made(gs_insn(modrm / 8 % 8, r), rest)
 }
 
 #[tactic(auto, unfolding(crate::specs::Reading::tail_at))]
-fn push_imm(size: Size, head: Head, bytes: &[u8]) -> Result<(Draft, &[u8]), DecodeFault>
-    ensures { Gives (λ x. (draft_of x.0, x.1.now)) result (tail_at (form_of (PushImm size)) head.gs head.rex bytes.now) }
+fn push_imm(size: Size, head: Head, bytes: &[u8]) -> Result<(Draft, &[u8]), DraftFault>
+    ensures { GivesExactly (λ x. (draft_of x.0, x.1.now)) result
+        (tail_at (form_of (PushImm size)) head.gs head.rex bytes.now) }
 {
     let (value, rest) = immediate(Width::Quad, size, bytes)?;
     Ok((Draft::Whole(Insn::Push(Source::Imm(value))), rest))
 }
 
 #[tactic(auto, unfolding(crate::specs::Reading::tail_at))]
-fn test_rax(head: Head, bytes: &[u8]) -> Result<(Draft, &[u8]), DecodeFault>
-    ensures { Gives (λ x. (draft_of x.0, x.1.now)) result (tail_at (form_of TestRax) head.gs head.rex bytes.now) }
+fn test_rax(head: Head, bytes: &[u8]) -> Result<(Draft, &[u8]), DraftFault>
+    ensures { GivesExactly (λ x. (draft_of x.0, x.1.now)) result
+        (tail_at (form_of TestRax) head.gs head.rex bytes.now) }
 {
     let w = width_of(head.rex);
     let (value, rest) = immediate(w, Size::Four, bytes)?;
@@ -269,8 +334,8 @@ fn test_rax(head: Head, bytes: &[u8]) -> Result<(Draft, &[u8]), DecodeFault>
 }
 
 #[tactic(auto, unfolding(crate::specs::Reading::tail_at))]
-fn test_al(head: Head, bytes: &[u8]) -> Result<(Draft, &[u8]), DecodeFault>
-    ensures { Gives (λ x. (draft_of x.0, x.1.now)) result (tail_at (form_of TestAl) head.gs head.rex bytes.now) }
+fn test_al(head: Head, bytes: &[u8]) -> Result<(Draft, &[u8]), DraftFault>
+    ensures { GivesExactly (λ x. (draft_of x.0, x.1.now)) result (tail_at (form_of TestAl) head.gs head.rex bytes.now) }
 {
     let (value, rest) = immediate(Width::Byte, Size::One, bytes)?;
     Ok((
@@ -289,18 +354,19 @@ fn disp_of_size(size: Size) -> Disp
 }
 
 #[tactic(auto, unfolding(crate::specs::Reading::tail_at))]
-fn relative(jump: Jump, size: Size, head: Head, bytes: &[u8]) -> Result<(Draft, &[u8]), DecodeFault>
-    ensures { Gives (λ x. (draft_of x.0, x.1.now)) result (tail_at (form_of (Relative jump size)) head.gs head.rex bytes.now) }
+fn relative(jump: Jump, size: Size, head: Head, bytes: &[u8]) -> Result<(Draft, &[u8]), DraftFault>
+    ensures { GivesExactly (λ x. (draft_of x.0, x.1.now)) result
+        (tail_at (form_of (Relative jump size)) head.gs head.rex bytes.now) }
 {
     let (distance, rest) = displacement(disp_of_size(size), bytes)?;
     Ok((Draft::Jump(jump, distance), rest))
 }
 
-/// What stands behind the opcode of a form.
+/// What stands after the opcode of a form.
 #[tactic(auto, unfolding(crate::specs::Reading::tail_at))]
-pub fn tail(form: Form, head: Head, bytes: &[u8]) -> Result<(Draft, &[u8]), DecodeFault>
+pub fn tail(form: Form, head: Head, bytes: &[u8]) -> Result<(Draft, &[u8]), DraftFault>
     requires { IsInRange form }
-    ensures { Gives (λ x. (draft_of x.0, x.1.now)) result (tail_at (form_of form) head.gs head.rex bytes.now) }
+    ensures { GivesExactly (λ x. (draft_of x.0, x.1.now)) result (tail_at (form_of form) head.gs head.rex bytes.now) }
 {
     match form {
         Form::Plain(insn) => Ok((Draft::Whole(insn), bytes)),

@@ -1,4 +1,6 @@
 -- The numbers in the chosen bytes, as the grammar reads them.
+-- Each number is written in the bytes of its bits at 8, 32 or 64, and reads back as itself where it fits: std's to_z-of_z
+-- and of_z-to_z. An immediate is written by its sign-extended form where that fits a byte. omega is left the ranges.
 use Rattle.std.proofs.Common.{◌≡◌, ℕ, ◌+◌, ◌-◌, ◌%◌, ◌^◌, ◌<◌, true, ltb, leb, [], ◌∷◌, ℤ, pos, negsuc, refl, sym, ap, ◌∙◌, arith}
 use Rattle.std.specs.Prelude.{FitsSigned, int_le}
 use Rattle.std.specs.Int.{w8, w32, w64, cast_signed, cast_unsigned, to_le_bytes}
@@ -25,8 +27,20 @@ number4 v h =
     (refl, (low-byte _, (low-byte _, (low-byte _, (low-byte _, tt)))), omega (arith, from_le_bytes-to_le_bytes_4 v h))
 
 number8 : (v : ℕ) → v < 2 ^ 64 → IsNumber 8 (to_le_bytes w64 v) v
-number8 v h =
-    (refl, (low-byte _, (low-byte _, (low-byte _, (low-byte _, (low-byte _, (low-byte _, (low-byte _, (low-byte _, tt)))))))), omega (arith, from_le_bytes-to_le_bytes_8 v h))
+number8 v h = (
+  refl,
+  (
+    low-byte _,
+    (
+      low-byte _,
+      (
+        low-byte _,
+        (low-byte _, (low-byte _, (low-byte _, (low-byte _, (low-byte _, tt))))),
+      ),
+    ),
+  ),
+  omega (arith, from_le_bytes-to_le_bytes_8 v h),
+)
 
 -- ---- signed numbers
 
@@ -36,8 +50,10 @@ byte-fits (pos n) h = record { sfits = ltb-true n 128 (and_parts (int_le (negsuc
 byte-fits (negsuc n) h = let k = leb-true n 127 (and_parts (leb n 127) true h).0 in record { sfits = omega (arith, k) }
 
 pub long-fits : (z : ℤ) → is_signed_long z ≡ true → FitsSigned w32 z
-long-fits (pos n) h = record { sfits = ltb-true n 2147483648 (and_parts (int_le (negsuc 2147483647) (pos n)) (ltb n 2147483648) h).1 }
-long-fits (negsuc n) h = let k = leb-true n 2147483647 (and_parts (leb n 2147483647) true h).0 in record { sfits = omega (arith, k) }
+long-fits (pos n) h =
+    record { sfits = ltb-true n 2147483648 (and_parts (int_le (negsuc 2147483647) (pos n)) (ltb n 2147483648) h).1 }
+long-fits (negsuc n) h = let k = leb-true n 2147483647 (and_parts (leb n 2147483647) true h).0 in
+    record { sfits = omega (arith, k) }
 
 bits8 : (z : ℤ) → FitsSigned w8 z → cast_unsigned w8 z < 256
 bits8 (pos n) f = omega (arith, f.sfits)
@@ -52,7 +68,8 @@ bits64 (pos n) f = omega (arith, f.sfits)
 bits64 (negsuc n) f = omega (arith, f.sfits)
 
 pub signed1 : (z : ℤ) → is_signed_byte z ≡ true → IsSigned 1 (one_byte z) z
-signed1 z h = let f = byte-fits z h in (cast_unsigned w8 z, number1 (cast_unsigned w8 z) (bits8 z f), sym (to_z-of_z w8 z f))
+signed1 z h = let f = byte-fits z h in
+    (cast_unsigned w8 z, number1 (cast_unsigned w8 z) (bits8 z f), sym (to_z-of_z w8 z f))
 
 pub signed4 : (z : ℤ) → FitsSigned w32 z → IsSigned 4 (four_bytes z) z
 unfolding four_bytes
@@ -78,7 +95,8 @@ pub imm-byte : (z : ℤ) → is_immediate Byte z ≡ true → IsImmediate Byte i
 imm-byte (pos n) h = (n, number1 n (ltb-true n 256 (and_parts (leb 0 n) (ltb n 256) h).1), refl)
 imm-byte (negsuc n) h = absurd cc
 
-long1 : (n : ℕ) → n < 2 ^ 32 → is_signed_byte (signed_at Long (pos n)) ≡ true → IsImmediate Long ib (one_byte (signed_at Long (pos n))) (pos n)
+long1 : (n : ℕ) → n < 2 ^ 32 → is_signed_byte (signed_at Long (pos n)) ≡ true
+    → IsImmediate Long ib (one_byte (signed_at Long (pos n))) (pos n)
 unfolding signed_at
 long1 n h s =
     let f = byte-fits (cast_signed w32 n) s in (
@@ -91,7 +109,8 @@ quad1 : (z : ℤ) → is_signed_byte (signed_at Quad z) ≡ true → IsImmediate
 unfolding signed_at
 quad1 z s = signed1 z s
 
-pub imm1 : (w : Width) (z : ℤ) → (w ≡ Byte → ⊥) → is_immediate w z ≡ true → is_signed_byte (signed_at w z) ≡ true → IsImmediate w ib (one_byte (signed_at w z)) z
+pub imm1 : (w : Width) (z : ℤ) → (w ≡ Byte → ⊥) → is_immediate w z ≡ true → is_signed_byte (signed_at w z) ≡ true
+    → IsImmediate w ib (one_byte (signed_at w z)) z
 imm1 Byte z other h s = absurd (other refl)
 imm1 Long (pos n) other h s = long1 n (ltb-true n 4294967296 (and_parts (leb 0 n) (ltb n 4294967296) h).1) s
 imm1 Long (negsuc n) other h s = absurd cc

@@ -1,4 +1,7 @@
 -- REX and the operand rm of the chosen bytes are those of the grammar.
+-- A register is its low three bits and the REX bit above them. A memory operand goes by cases as the definition does:
+-- no base, RIP, or a base with or without a SIB byte; its displacement by size. Where no bit of REX is in use there is
+-- no REX byte, so all its bits read as 0.
 use Rattle.std.proofs.Common.{◌≡◌, ℕ, ◌+◌, ◌*◌, ◌%◌, ◌^◌, ◌<◌, ◌≤◌, Bool, true, false, cond, not, ◌&&◌, ◌||◌, eqb, ltb, leb, List, [], ◌∷◌, length, Option, Some, None, ◌⊎◌, inl, inr, ℤ, pos, refl, sym, ap, subst, ◌∙◌, arith, lit<}
 use Rattle.std.specs.Prelude.{FitsSigned}
 use Rattle.std.specs.Int.{w32}
@@ -28,7 +31,8 @@ unfolding rex_bytes
 rex-is None = refl
 rex-is (Some r) = refl
 
-pub rex-bits : (w r x b : Bool) → (w_bit (rex w r x b) ≡ w) × (r_bit (rex w r x b) ≡ r) × (x_bit (rex w r x b) ≡ x) × (b_bit (rex w r x b) ≡ b)
+pub rex-bits : (w r x b : Bool) → (w_bit (rex w r x b) ≡ w) × (r_bit (rex w r x b) ≡ r) × (x_bit (rex w r x b) ≡ x)
+    × (b_bit (rex w r x b) ≡ b)
 unfolding rex
 rex-bits true r x b = (refl, refl, refl, refl)
 rex-bits false true x b = (refl, refl, refl, refl)
@@ -64,17 +68,23 @@ some-bit false false false true c h = refl
 some-bit false false false false c h = absurd cc
 
 -- what a form permits of the prefixes that are in use
-pub permits-used : (form : Form) (g w r x b : Bool) → needs_w form ≡ false → (g ≡ true → has_access form ≡ true) → (w ≡ true → has_width form ≡ true)
-    → (r ≡ true → has_reg form ≡ true) → (x ≡ true → has_rm form ≡ true) → (b ≡ true → has_register form ≡ true) → permits form g (rex w r x b) ≡ true
+pub permits-used : (form : Form) (g w r x b : Bool) → needs_w form ≡ false → (g ≡ true → has_access form ≡ true)
+    → (w ≡ true → has_width form ≡ true)
+    → (r ≡ true → has_reg form ≡ true) → (x ≡ true → has_rm form ≡ true) → (b ≡ true → has_register form ≡ true)
+    → permits form g (rex w r x b) ≡ true
 unfolding rex
-permits-used form g w r x b n hg hw hr hx hb = and_from _ _ (implied g (has_access form) hg) (go (w || (r || (x || b))) refl)
+permits-used form g w r x b n hg hw hr hx hb =
+    and_from _ _ (implied g (has_access form) hg) (go (w || (r || (x || b))) refl)
   where
-    width : (t : Bool) → (t ≡ true → has_width form ≡ true) → cond t (has_width form || needs_w form) (not (needs_w form)) ≡ true
+    width : (t : Bool) → (t ≡ true → has_width form ≡ true)
+        → cond t (has_width form || needs_w form) (not (needs_w form)) ≡ true
     width true h = ap (λ (k : Bool). k || needs_w form) (h refl)
     width false h = ap not n
 
-    go : (t : Bool) → (w || (r || (x || b))) ≡ t → permits_rex form (cond t (Some (record { w = w; r = r; x = x; b = b })) None) ≡ true
-    go true e = and_from _ _ (and_from _ _ (and_from _ _ (and_from _ _ (width w hw) (implied r (has_reg form) hr)) (implied x (has_rm form) hx)) (implied b (has_register form) hb)) (some-bit w r x b (has_register form) e)
+    go : (t : Bool) → (w || (r || (x || b))) ≡ t
+        → permits_rex form (cond t (Some (record { w = w; r = r; x = x; b = b })) None) ≡ true
+    go true e = and_from _ _ (and_from _ _ (and_from _ _ (and_from _ _ (width w hw) (implied r (has_reg form) hr))
+        (implied x (has_rm form) hx)) (implied b (has_register form) hb)) (some-bit w r x b (has_register form) e)
     go false e = ap not n
 
 -- ---- registers
@@ -105,13 +115,15 @@ zero-is z h = (Decides-int_eq z (pos 0)).0 h
 
 -- the three modes
 abbrev ModeIs : Reg → ℤ → ℕ → Type 0
-ModeIs r disp m = ((m ≡ 0) × (disp ≡ pos 0) × (eqb (low r) 5 ≡ false)) ⊎ (((m ≡ 1) × (is_signed_byte disp ≡ true)) ⊎ (m ≡ 2))
+ModeIs r disp m = ((m ≡ 0) × (disp ≡ pos 0) × (eqb (low r) 5 ≡ false))
+    ⊎ (((m ≡ 1) × (is_signed_byte disp ≡ true)) ⊎ (m ≡ 2))
 
 mode-is : (r : Reg) (disp : ℤ) → ModeIs r disp (mode r disp)
 unfolding mode
 mode-is r disp = go (int_eq disp (pos 0)) (eqb (low r) 5) (is_signed_byte disp) refl refl refl
   where
-    go : (x y z : Bool) → int_eq disp (pos 0) ≡ x → eqb (low r) 5 ≡ y → is_signed_byte disp ≡ z → ModeIs r disp (cond (x && not y) 0 (cond z 1 2))
+    go : (x y z : Bool) → int_eq disp (pos 0) ≡ x → eqb (low r) 5 ≡ y → is_signed_byte disp ≡ z
+        → ModeIs r disp (cond (x && not y) 0 (cond z 1 2))
     go true false z ex ey ez = inl (refl, zero-is disp ex, ey)
     go true true true ex ey ez = inr (inl (refl, ez))
     go true true false ex ey ez = inr (inr refl)
@@ -123,11 +135,13 @@ mode-below r disp m (inl h) = omega (arith, h.0)
 mode-below r disp m (inr (inl h)) = omega (arith, h.0)
 mode-below r disp m (inr (inr h)) = omega (arith, h)
 
-base-is : (special : Base) (o : Option Rex) (r : Reg) (disp : ℤ) (m : ℕ) → ModeIs r disp m → b_bit o ≡ high r → is_register r ≡ true → base_of special o m (low r) ≡ base.Reg r
+base-is : (special : Base) (o : Option Rex) (r : Reg) (disp : ℤ) (m : ℕ) → ModeIs r disp m → b_bit o ≡ high r
+    → is_register r ≡ true → base_of special o m (low r) ≡ base.Reg r
 base-is special o r disp m h e ok =
     go h ∙ ap base.Reg (ap (λ (t : Bool). extended t (low r)) e ∙ register-whole r ok)
   where
-    plain : (t : Bool) → t ≡ false → cond t special (base.Reg (extended (b_bit o) (low r))) ≡ base.Reg (extended (b_bit o) (low r))
+    plain : (t : Bool) → t ≡ false
+        → cond t special (base.Reg (extended (b_bit o) (low r))) ≡ base.Reg (extended (b_bit o) (low r))
     plain true k = absurd cc
     plain false k = refl
 
@@ -137,10 +151,13 @@ base-is special o r disp m h e ok =
 
     go : ModeIs r disp m → base_of special o m (low r) ≡ base.Reg (extended (b_bit o) (low r))
     go (inl k) = plain (eqb m 0 && eqb (low r) 5) (none (eqb m 0) (eqb (low r) 5) k.2)
-    go (inr (inl k)) = subst (λ (n : ℕ). base_of special o n (low r) ≡ base.Reg (extended (b_bit o) (low r))) (sym k.0) refl
-    go (inr (inr k)) = subst (λ (n : ℕ). base_of special o n (low r) ≡ base.Reg (extended (b_bit o) (low r))) (sym k) refl
+    go (inr (inl k)) = subst (λ (n : ℕ). base_of special o n (low r) ≡ base.Reg (extended (b_bit o) (low r))) (sym k.0)
+        refl
+    go (inr (inr k)) = subst (λ (n : ℕ). base_of special o n (low r) ≡ base.Reg (extended (b_bit o) (low r))) (sym k)
+        refl
 
-disp-is : (r : Reg) (disp : ℤ) (m : ℕ) → ModeIs r disp m → FitsSigned w32 disp → IsSigned (fields.disp_bytes m (low r)) (disp_bytes m disp) disp
+disp-is : (r : Reg) (disp : ℤ) (m : ℕ) → ModeIs r disp m → FitsSigned w32 disp
+    → IsSigned (fields.disp_bytes m (low r)) (disp_bytes m disp) disp
 unfolding disp_bytes
 disp-is r disp m (inl h) f =
     subst (λ (n : ℕ). IsSigned (fields.disp_bytes n (low r)) (disp_bytes n disp) disp) (sym h.0)
@@ -149,12 +166,15 @@ disp-is r disp m (inl h) f =
     none : (t : Bool) → t ≡ false → IsSigned (cond t 4 0) [] disp
     none true k = absurd cc
     none false k = (0, (refl, tt, refl), h.1)
-disp-is r disp m (inr (inl h)) f = subst (λ (n : ℕ). IsSigned (fields.disp_bytes n (low r)) (disp_bytes n disp) disp) (sym h.0) (signed1 disp h.1)
-disp-is r disp m (inr (inr h)) f = subst (λ (n : ℕ). IsSigned (fields.disp_bytes n (low r)) (disp_bytes n disp) disp) (sym h) (signed4 disp f)
+disp-is r disp m (inr (inl h)) f =
+    subst (λ (n : ℕ). IsSigned (fields.disp_bytes n (low r)) (disp_bytes n disp) disp) (sym h.0) (signed1 disp h.1)
+disp-is r disp m (inr (inr h)) f =
+    subst (λ (n : ℕ). IsSigned (fields.disp_bytes n (low r)) (disp_bytes n disp) disp) (sym h) (signed4 disp f)
 
 -- ---- SIB
 
-scale-is : (s : ℕ) → (eqb s 1 || (eqb s 2 || (eqb s 4 || eqb s 8))) ≡ true → (2 ^ scale_field s ≡ s) × (scale_field s < 4)
+scale-is : (s : ℕ) → (eqb s 1 || (eqb s 2 || (eqb s 4 || eqb s 8))) ≡ true → (2 ^ scale_field s ≡ s)
+    × (scale_field s < 4)
 scale-is s h = elim (or_cases (eqb s 1) _ h) [
   | inl a ↦ at 1 (eqb-true s 1 a) (refl, lit< tt)
   | inr r ↦ elim (or_cases (eqb s 2) _ r) [
@@ -188,14 +208,17 @@ indexed r scale = Some (r, scale)
 
 index-is : (o : Option Rex) (index : Option (Reg × ℕ)) → is_index index ≡ true → x_bit o ≡ index_high index
     → (index_of o (scale_of index) (field_of index) ≡ index) × (scale_of index < 4) × (field_of index < 8)
-index-is o None h e = (ap (λ (t : Bool). cond (eqb (worth t 8 + 4) 4) None (Some (extended t 4, 1))) e, lit< tt, lit< tt)
+index-is o None h e =
+    (ap (λ (t : Bool). cond (eqb (worth t 8 + 4) 4) None (Some (extended t 4, 1))) e, lit< tt, lit< tt)
 index-is o (Some (r, s)) h e =
     let ok : is_register r ≡ true = (and_parts (ltb r.0 16) _ h).0 in
     let rest = (and_parts (ltb r.0 16) _ h).1 in
     let other : not (eqb r.0 4) ≡ true = (and_parts (not (eqb r.0 4)) _ rest).0 in
     let sc = scale-is s (and_parts (not (eqb r.0 4)) _ rest).1 in (
-      ap (λ (t : Bool). cond {A = Option (Reg × ℕ)} (eqb (worth t 8 + low r) 4) None (Some (extended t (low r), 2 ^ scale_field s))) e
-          ∙ ap (λ (n : ℕ). cond {A = Option (Reg × ℕ)} (eqb n 4) None (Some (extended (high r) (low r), 2 ^ scale_field s))) (number-whole r ok)
+      ap (λ (t : Bool). cond {A = Option (Reg × ℕ)} (eqb (worth t 8 + low r) 4) None
+          (Some (extended t (low r), 2 ^ scale_field s))) e
+          ∙ ap (λ (n : ℕ). cond {A = Option (Reg × ℕ)} (eqb n 4) None
+          (Some (extended (high r) (low r), 2 ^ scale_field s))) (number-whole r ok)
           ∙ plain (eqb r.0 4) other
           ∙ ap (λ (p : Reg). indexed p (2 ^ scale_field s)) (register-whole r ok)
           ∙ ap (λ (n : ℕ). indexed r n) sc.0,
@@ -203,16 +226,20 @@ index-is o (Some (r, s)) h e =
       low-below r,
     )
   where
-    plain : (t : Bool) → not t ≡ true → cond {A = Option (Reg × ℕ)} t None (Some (extended (high r) (low r), 2 ^ scale_field s)) ≡ Some (extended (high r) (low r), 2 ^ scale_field s)
+    plain : (t : Bool) → not t ≡ true
+        → cond {A = Option (Reg × ℕ)} t None (Some (extended (high r) (low r), 2 ^ scale_field s)) ≡ Some
+        (extended (high r) (low r), 2 ^ scale_field s)
     plain true k = absurd cc
     plain false k = refl
 
 -- ---- the operand
 
 abbrev MemoryIs : Bool → Option Rex → ℕ → Base → Option (Reg × ℕ) → ℤ → List ℕ → Type 0
-MemoryIs g o reg b index disp bytes = IsOperand g o reg bytes (place.Mem (record { gs = g; base = b; index = index; disp = disp }))
+MemoryIs g o reg b index disp bytes =
+    IsOperand g o reg bytes (place.Mem (record { gs = g; base = b; index = index; disp = disp }))
 
-rip-is : (g : Bool) (o : Option Rex) (reg : ℕ) (disp : ℤ) → reg < 8 → FitsSigned w32 disp → x_bit o ≡ false → MemoryIs g o reg base.Rip None disp (modrm 0 reg 5 ∷ four_bytes disp)
+rip-is : (g : Bool) (o : Option Rex) (reg : ℕ) (disp : ℤ) → reg < 8 → FitsSigned w32 disp → x_bit o ≡ false
+    → MemoryIs g o reg base.Rip None disp (modrm 0 reg 5 ∷ four_bytes disp)
 rip-is g o reg disp below f x = record {
   mode = 0;
   rm = 5;
@@ -224,7 +251,8 @@ rip-is g o reg disp below f x = record {
   operand_is = in_memory _ (lit< tt) (no_sib disp (λ e. absurd (omega (arith, e))) x (signed4 disp f) refl) refl;
 }
 
-absent-is : (g : Bool) (o : Option Rex) (reg : ℕ) (index : Option (Reg × ℕ)) (disp : ℤ) → reg < 8 → is_index index ≡ true → FitsSigned w32 disp → x_bit o ≡ index_high index
+absent-is : (g : Bool) (o : Option Rex) (reg : ℕ) (index : Option (Reg × ℕ)) (disp : ℤ) → reg < 8
+    → is_index index ≡ true → FitsSigned w32 disp → x_bit o ≡ index_high index
     → MemoryIs g o reg base.Absent index disp (modrm 0 reg 4 ∷ sib index 5 ∷ four_bytes disp)
 absent-is g o reg index disp below ok f x =
     let ix = index-is o index ok x in
@@ -242,9 +270,11 @@ absent-is g o reg index disp below ok f x =
           (λ i. record { gs = g; base = base.Absent; index = sym ix.0 i; disp = disp })) refl;
     }
 
-based-is : (g : Bool) (o : Option Rex) (reg : ℕ) (r : Reg) (index : Option (Reg × ℕ)) (disp : ℤ) → reg < 8 → is_register r ≡ true → is_index index ≡ true → FitsSigned w32 disp
+based-is : (g : Bool) (o : Option Rex) (reg : ℕ) (r : Reg) (index : Option (Reg × ℕ)) (disp : ℤ) → reg < 8
+    → is_register r ≡ true → is_index index ≡ true → FitsSigned w32 disp
     → x_bit o ≡ index_high index → b_bit o ≡ high r
-    → MemoryIs g o reg (base.Reg r) index disp (modrm (mode r disp) reg 4 ∷ sib index (low r) ∷ disp_bytes (mode r disp) disp)
+    → MemoryIs g o reg (base.Reg r) index disp (modrm (mode r disp) reg 4 ∷ sib index (low r) ∷ disp_bytes
+    (mode r disp) disp)
 based-is g o reg r index disp below ok iok f x b =
     let ix = index-is o index iok x in
     let m = mode-is r disp in
@@ -258,12 +288,20 @@ based-is g o reg r index disp below ok iok f x b =
       rm_range = lit< tt;
       modrm = refl;
       operand_is = in_memory _ small
-          (fields.sib (scale_of index) (field_of index) (low r) (disp_bytes (mode r disp) disp) disp refl ix.1 ix.2 (low-below r)
+          (fields.sib (scale_of index) (field_of index) (low r) (disp_bytes (mode r disp) disp) disp refl ix.1 ix.2
+          (low-below r)
           (ap (λ (n : ℕ). n ∷ disp_bytes (mode r disp) disp) (sib-is index (low r))) (disp-is r disp (mode r disp) m f)
-          (λ i. record { gs = g; base = sym (base-is base.Absent o r disp (mode r disp) m b ok) i; index = sym ix.0 i; disp = disp })) refl;
+          (λ i. record {
+            gs = g;
+            base = sym (base-is base.Absent o r disp (mode r disp) m b ok) i;
+            index =
+                sym ix.0 i;
+            disp = disp;
+          })) refl;
     }
 
-plain-is : (g : Bool) (o : Option Rex) (reg : ℕ) (r : Reg) (disp : ℤ) → reg < 8 → is_register r ≡ true → eqb (low r) 4 ≡ false → FitsSigned w32 disp
+plain-is : (g : Bool) (o : Option Rex) (reg : ℕ) (r : Reg) (disp : ℤ) → reg < 8 → is_register r ≡ true
+    → eqb (low r) 4 ≡ false → FitsSigned w32 disp
     → x_bit o ≡ false → b_bit o ≡ high r
     → MemoryIs g o reg (base.Reg r) None disp (modrm (mode r disp) reg (low r) ∷ disp_bytes (mode r disp) disp)
 plain-is g o reg r disp below ok other f x b =
@@ -279,24 +317,34 @@ plain-is g o reg r disp below ok other f x b =
       modrm = refl;
       operand_is = in_memory _ small
           (no_sib disp (eqb-false (low r) 4 other) x (disp-is r disp (mode r disp) m f)
-          (λ i. record { gs = g; base = sym (base-is base.Rip o r disp (mode r disp) m b ok) i; index = None; disp = disp })) refl;
+          (λ i. record {
+            gs = g;
+            base = sym (base-is base.Rip o r disp (mode r disp) m b ok) i;
+            index = None;
+            disp =
+                disp;
+          })) refl;
     }
 
-memory-is : (g : Bool) (o : Option Rex) (reg : ℕ) (bs : Base) (index : Option (Reg × ℕ)) (disp : ℤ) → reg < 8 → is_address bs index ≡ true → FitsSigned w32 disp
+memory-is : (g : Bool) (o : Option Rex) (reg : ℕ) (bs : Base) (index : Option (Reg × ℕ)) (disp : ℤ) → reg < 8
+    → is_address bs index ≡ true → FitsSigned w32 disp
     → x_bit o ≡ index_high index → b_bit o ≡ base_high bs → MemoryIs g o reg bs index disp (memory reg bs index disp)
 unfolding memory needs_sib
 memory-is g o reg base.Rip None disp below ok f x b = rip-is g o reg disp below f x
 memory-is g o reg base.Rip (Some i) disp below ok f x b = absurd cc
 memory-is g o reg base.Absent index disp below ok f x b = absent-is g o reg index disp below ok f x
 memory-is g o reg (base.Reg r) (Some i) disp below ok f x b =
-    based-is g o reg r (Some i) disp below (and_parts (is_register r) (is_index (Some i)) ok).0 (and_parts (is_register r) (is_index (Some i)) ok).1 f x b
+    based-is g o reg r (Some i) disp below (and_parts (is_register r) (is_index (Some i)) ok).0
+    (and_parts (is_register r) (is_index (Some i)) ok).1 f x b
 memory-is g o reg (base.Reg r) None disp below ok f x b = go (eqb (low r) 4) refl
   where
     here : is_register r ≡ true
     here = (and_parts (is_register r) true ok).0
 
     go : (t : Bool) → eqb (low r) 4 ≡ t
-        → MemoryIs g o reg (base.Reg r) None disp (cond t (modrm (mode r disp) reg 4 ∷ sib None (low r) ∷ disp_bytes (mode r disp) disp) (modrm (mode r disp) reg (low r) ∷ disp_bytes (mode r disp) disp))
+        → MemoryIs g o reg (base.Reg r) None disp (cond t
+        (modrm (mode r disp) reg 4 ∷ sib None (low r) ∷ disp_bytes (mode r disp) disp)
+        (modrm (mode r disp) reg (low r) ∷ disp_bytes (mode r disp) disp))
     go true e = based-is g o reg r None disp below here refl f x b
     go false e = plain-is g o reg r disp below here e f x b
 
@@ -305,7 +353,8 @@ abbrev pub HasDisp : Place → Type 0
 HasDisp (place.Reg r) = Unit {0}
 HasDisp (place.Mem m) = FitsSigned w32 m.disp
 
-pub operand-is : (o : Option Rex) (reg : ℕ) (p : Place) → reg < 8 → is_place p ≡ true → HasDisp p → x_bit o ≡ x_of p → b_bit o ≡ b_of p → IsOperand (gs p) o reg (operand reg p) p
+pub operand-is : (o : Option Rex) (reg : ℕ) (p : Place) → reg < 8 → is_place p ≡ true → HasDisp p → x_bit o ≡ x_of p
+    → b_bit o ≡ b_of p → IsOperand (gs p) o reg (operand reg p) p
 unfolding operand
 operand-is o reg (place.Reg r) below ok f x b = record {
   mode = 3;
@@ -315,7 +364,8 @@ operand-is o reg (place.Reg r) below ok f x b = record {
   reg_range = below;
   rm_range = low-below r;
   modrm = refl;
-  operand_is = in_register refl refl x refl (ap place.Reg (sym (ap (λ (t : Bool). extended t (low r)) b ∙ register-whole r ok)));
+  operand_is = in_register refl refl x refl (ap place.Reg
+      (sym (ap (λ (t : Bool). extended t (low r)) b ∙ register-whole r ok)));
 }
 operand-is o reg (place.Mem m) below ok f x b = memory-is m.gs o reg m.base m.index m.disp below ok f x b
 
@@ -344,7 +394,8 @@ memory-length reg base.Rip index disp = omega (arith, four-length disp)
 memory-length reg base.Absent index disp = omega (arith, four-length disp)
 memory-length reg (base.Reg r) index disp = go (needs_sib r index)
   where
-    go : (t : Bool) → length (cond t (modrm (mode r disp) reg 4 ∷ sib index (low r) ∷ disp_bytes (mode r disp) disp) (modrm (mode r disp) reg (low r) ∷ disp_bytes (mode r disp) disp)) ≤ 6
+    go : (t : Bool) → length (cond t (modrm (mode r disp) reg 4 ∷ sib index (low r) ∷ disp_bytes (mode r disp) disp)
+        (modrm (mode r disp) reg (low r) ∷ disp_bytes (mode r disp) disp)) ≤ 6
     go true = omega (arith, disp-length (mode r disp) disp)
     go false = omega (arith, disp-length (mode r disp) disp)
 

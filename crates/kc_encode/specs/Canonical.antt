@@ -136,11 +136,13 @@ opcode_register w opcode r = rex_bytes (rex w false false (high r)) ++ (opcode +
 
 -- /r: a register in the reg field
 unfoldable pub with_register : Width → ℕ → Reg → Place → List ℕ
-with_register w opcode reg rm = gs_bytes (gs rm) ++ rex_bytes (rex (is_quad w) (high reg) (x_of rm) (b_of rm)) ++ opcode ∷ operand (low reg) rm
+with_register w opcode reg rm =
+    gs_bytes (gs rm) ++ rex_bytes (rex (is_quad w) (high reg) (x_of rm) (b_of rm)) ++ opcode ∷ operand (low reg) rm
 
 -- /n: an opcode extension in the reg field
 unfoldable pub with_digit : Width → List ℕ → ℕ → Place → List ℕ
-with_digit w opcode n rm = gs_bytes (gs rm) ++ rex_bytes (rex (is_quad w) false (x_of rm) (b_of rm)) ++ opcode ++ operand n rm
+with_digit w opcode n rm =
+    gs_bytes (gs rm) ++ rex_bytes (rex (is_quad w) false (x_of rm) (b_of rm)) ++ opcode ++ operand n rm
 
 -- /n with a register and no width
 unfoldable pub on_register : Bool → List ℕ → ℕ → Reg → List ℕ
@@ -226,7 +228,7 @@ bit_digit bits.Reset = 6
 
 -- ---- jumps
 
--- how far the target lies from the address behind the jump: modulo 2^64, as a signed number
+-- how far the target lies from the address after the jump: modulo 2^64, as a signed number
 abbrev pub distance : ℕ → ℕ → ℤ
 distance next target = cast_signed w64 ((target + (2 ^ 64 - next % 2 ^ 64)) % 2 ^ 64)
 

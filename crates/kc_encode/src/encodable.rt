@@ -21,8 +21,8 @@ fn anchor(insn: Insn) -> u64
 /// Each encodable instruction has a spelling. With the clauses of `Insn::encodable`, it answers true
 /// exactly where some bytes at some address spell the instruction.
 pub fn has_spelling(insn: &Insn)
-    requires { IsTrue (is_encodable insn.now) }
-    ensures { (bytes : List ℕ) × (at : ℕ) × Spells bytes at insn.now }
+    requires encodable { IsTrue (is_encodable insn.now) }
+    ensures spelled { (bytes : List ℕ) × (at : ℕ) × Spells bytes at insn.now }
 {
     is_spelled(*insn, anchor(*insn));
 }

@@ -90,7 +90,7 @@ pub(crate) fn is_spelled(insn: Insn, at: u64)
 /// The chosen spelling of an encodable instruction at address `at`, 1 to 15 bytes. Targets are
 /// absolute, and distances are taken modulo 2^64.
 pub fn encode(alloc: Global, insn: &Insn, at: u64) -> Result<Vec<u8>, EncodeFault>
-    requires { IsTrue (is_encodable insn.now) }
+    requires encodable { IsTrue (is_encodable insn.now) }
     ensures bytes { IfOk result (λ v. v.items ≡ canonical_bytes insn.now at) }
     // These bytes spell the instruction.
     ensures spelled { IfOk result (λ v. Spells v.items at insn.now) }
@@ -110,7 +110,7 @@ pub fn encode(alloc: Global, insn: &Insn, at: u64) -> Result<Vec<u8>, EncodeFaul
 
 /// Encoding and decoding again gives the instruction back.
 pub fn round_trip(alloc: Global, insn: &Insn, at: u64) -> Result<Insn, EncodeFault>
-    requires { IsTrue (is_encodable insn.now) }
+    requires encodable { IsTrue (is_encodable insn.now) }
     ensures found { IfOk result (λ found. found ≡ insn.now) }
     // The target's distance isn't a signed 32-bit number.
     ensures out_of_reach { (result ≡ Err OutOfReach) ↔ (reaches_target insn.now at ≡ false) }

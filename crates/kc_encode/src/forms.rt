@@ -102,7 +102,8 @@ fn alu_digit(op: AluOp) -> u8
 
 fn put_short(out: &mut Vec<u8>, op: AluOp, w: Width, p: Place, z: i64) -> Result<(), NoMemory>
     requires { IsTrue (signed_byte z) }
-    ensures { OnOk result (out.new.items ≡ out.old.items ++ with_digit w (0x83 ∷ []) (alu_extension op) p ++ one_byte z) }
+    ensures { OnOk result (out.new.items ≡ out.old.items
+        ++ with_digit w (0x83 ∷ []) (alu_extension op) p ++ one_byte z) }
 {
     put_with_digit(out, w, &[0x83], alu_digit(op), p)?;
     put_byte(out, z)
@@ -110,7 +111,8 @@ fn put_short(out: &mut Vec<u8>, op: AluOp, w: Width, p: Place, z: i64) -> Result
 
 fn put_long(out: &mut Vec<u8>, op: AluOp, w: Width, p: Place, z: i64) -> Result<(), NoMemory>
     requires { IsTrue (is_immediate w z) }
-    ensures { OnOk result (out.new.items ≡ out.old.items ++ with_digit w (0x81 ∷ []) (alu_extension op) p ++ four_bytes z) }
+    ensures { OnOk result (out.new.items ≡ out.old.items
+        ++ with_digit w (0x81 ∷ []) (alu_extension op) p ++ four_bytes z) }
 {
     put_with_digit(out, w, &[0x81], alu_digit(op), p)?;
     put_immediate(out, w, z)
@@ -210,7 +212,8 @@ fn bit_digit(op: BitOp) -> u8
 
 /// Writes BT, BTS or BTR.
 pub fn put_bit(out: &mut Vec<u8>, op: BitOp, w: Width, p: Place, n: u8) -> Result<(), NoMemory>
-    ensures { OnOk result (out.new.items ≡ out.old.items ++ with_digit w (0x0F ∷ 0xBA ∷ []) (bit_extension op) p ++ n ∷ []) }
+    ensures { OnOk result (out.new.items ≡ out.old.items
+        ++ with_digit w (0x0F ∷ 0xBA ∷ []) (bit_extension op) p ++ n ∷ []) }
 {
     put_with_digit(out, w, &[0x0F, 0xBA], bit_digit(op), p)?;
     out.push(n)?;

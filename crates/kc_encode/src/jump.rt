@@ -1,4 +1,4 @@
-//! Jumps by a distance of 32 bits from the address behind them (Intel SDM vol. 2, "JMP").
+//! Jumps by a distance of 32 bits from the address after them (Intel SDM vol. 2, "JMP").
 
 ghost use Rattle.std.specs.Prelude.{◌≡◌, ◌+◌, ◌++◌, IsTrue, OnOk};
 ghost use Rattle.kc_encode.specs.Canonical.{distance as distance_to, in_reach as reached, reaches as reaches_target, four_bytes};

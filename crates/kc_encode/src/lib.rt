@@ -14,6 +14,3 @@ mod rex;
 pub use encodable::has_spelling;
 pub use encoder::{encode, round_trip};
 pub use fault::EncodeFault;
-
-#[cfg(test)]
-mod tests;

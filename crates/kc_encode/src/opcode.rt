@@ -1,4 +1,4 @@
-//! The opcode lines: prefixes, opcode, and the registers and operands behind it (Intel SDM vol. 2,
+//! The opcode lines: prefixes, opcode, and the registers and operands after it (Intel SDM vol. 2,
 //! "Instruction Format").
 
 ghost use Rattle.std.specs.Prelude.{◌≡◌, ◌+◌, ◌++◌, ◌<◌, ◌≤◌, OnOk};

@@ -88,7 +88,8 @@ fn needs_sib(r: Reg, index: Option<(Reg, u8)>) -> bool
 
 fn put_with_sib(out: &mut Vec<u8>, reg: u8, r: Reg, mem: Mem) -> Result<(), NoMemory>
     requires { reg < 8 }
-    ensures { OnOk result (out.new.items ≡ out.old.items ++ modrm_byte (mode_field r mem.disp) reg 4 ∷ sib_byte mem.index (low_bits r) ∷ disp_bytes (mode_field r mem.disp) mem.disp) }
+    ensures { OnOk result (out.new.items ≡ out.old.items
+        ++ modrm_byte (mode_field r mem.disp) reg 4 ∷ sib_byte mem.index (low_bits r) ∷ disp_bytes (mode_field r mem.disp) mem.disp) }
 {
     let mode = mode(r, mem.disp);
     out.push(modrm(mode, reg, 4))?;
@@ -98,7 +99,8 @@ fn put_with_sib(out: &mut Vec<u8>, reg: u8, r: Reg, mem: Mem) -> Result<(), NoMe
 
 fn put_without_sib(out: &mut Vec<u8>, reg: u8, r: Reg, disp: i32) -> Result<(), NoMemory>
     requires { reg < 8 }
-    ensures { OnOk result (out.new.items ≡ out.old.items ++ modrm_byte (mode_field r disp) reg (low_bits r) ∷ disp_bytes (mode_field r disp) disp) }
+    ensures { OnOk result (out.new.items ≡ out.old.items
+        ++ modrm_byte (mode_field r disp) reg (low_bits r) ∷ disp_bytes (mode_field r disp) disp) }
 {
     let mode = mode(r, disp);
     out.push(modrm(mode, reg, low(r)))?;

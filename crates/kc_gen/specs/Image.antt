@@ -12,14 +12,14 @@ abbrev pub line_bytes : ℕ → Line → List ℕ
 line_bytes at (At to) = replicate (to - at) 0x90
 line_bytes at (Code insn) = canonical_bytes insn at
 
--- the address that is reached behind the line
-abbrev pub behind : ℕ → Line → ℕ
-behind at (At to) = to
-behind at (Code insn) = at + length (canonical_bytes insn at)
+-- the address that is reached after the line
+abbrev pub reached : ℕ → Line → ℕ
+reached at (At to) = to
+reached at (Code insn) = at + length (canonical_bytes insn at)
 
 abbrev pub code_from : ℕ → List Line → List ℕ
 code_from at [] = []
-code_from at (line ∷ rest) = line_bytes at line ++ code_from (behind at line) rest
+code_from at (line ∷ rest) = line_bytes at line ++ code_from (reached at line) rest
 
 abbrev pub header : ℕ → List ℕ
 header load = codes "ENTRYRAW" ++ to_le_bytes w64 load
@@ -34,10 +34,11 @@ abbrev pub can_stand : ℕ → Line → Bool
 can_stand at (At to) = nat_le at to
 can_stand at (Code insn) = is_encodable insn && reaches insn at
 
--- what is reached lies below 64 MiB behind the load address, and is an address
+-- what is reached lies below 64 MiB after the load address, and is an address
 abbrev pub within : ℕ → ℕ → Bool
 within load at = nat_lt at (load + 2 ^ 26) && nat_lt at (2 ^ 64)
 
 abbrev pub is_listing : ℕ → ℕ → List Line → Bool
 is_listing load at [] = true
-is_listing load at (line ∷ rest) = can_stand at line && (within load (behind at line) && is_listing load (behind at line) rest)
+is_listing load at (line ∷ rest) =
+    can_stand at line && (within load (reached at line) && is_listing load (reached at line) rest)

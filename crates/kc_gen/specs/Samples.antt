@@ -134,11 +134,13 @@ call target = Code (Call target)
 -- ---- parts of entries
 
 abbrev pub save : List Line
-save = push rax ∷ push rcx ∷ push rdx ∷ push rbx ∷ push (r 5) ∷ push (r 6) ∷ push (r 7) ∷ push (r 8) ∷ push (r 9) ∷ push (r 10) ∷ push r11
+save = push rax ∷ push rcx ∷ push rdx ∷ push rbx ∷ push (r 5) ∷ push (r 6) ∷ push (r 7) ∷ push (r 8) ∷ push
+    (r 9) ∷ push (r 10) ∷ push r11
     ∷ push (r 12) ∷ push (r 13) ∷ push r14 ∷ push (r 15) ∷ []
 
 abbrev pub restore : List Line
-restore = pop (r 15) ∷ pop r14 ∷ pop (r 13) ∷ pop (r 12) ∷ pop r11 ∷ pop (r 10) ∷ pop (r 9) ∷ pop (r 8) ∷ pop (r 7) ∷ pop (r 6) ∷ pop (r 5)
+restore = pop (r 15) ∷ pop r14 ∷ pop (r 13) ∷ pop (r 12) ∷ pop r11 ∷ pop (r 10) ∷ pop (r 9) ∷ pop (r 8) ∷ pop
+    (r 7) ∷ pop (r 6) ∷ pop (r 5)
     ∷ pop rbx ∷ pop rdx ∷ pop rcx ∷ pop rax ∷ []
 
 -- all bits but bit 12: -0x1001
@@ -152,31 +154,37 @@ user_cr3 = read_cr3 rax ∷ or rax (pos 0x1000) ∷ write_cr3 rax ∷ []
 
 abbrev pub syscall_entry : List Line
 syscall_entry =
-    At 0xffffffff81000000 ∷ swapgs ∷ store (per_cpu 0x800) rsp ∷ read_cr3 rsp ∷ and rsp (negsuc 0x1000) ∷ write_cr3 rsp ∷ load rsp (per_cpu 0x808)
+    At 0xffffffff81000000 ∷ swapgs ∷ store (per_cpu 0x800) rsp ∷ read_cr3 rsp ∷ and rsp (negsuc 0x1000) ∷ write_cr3
+    rsp ∷ load rsp (per_cpu 0x808)
     ∷ push_number 0x2b ∷ push_from (per_cpu 0x800) ∷ push r11 ∷ push_number 0x33 ∷ push rcx
     ∷ call 0xffffffff81800000
-    ∷ pop rcx ∷ pop rdx ∷ pop r11 ∷ read_cr3 rdx ∷ or rdx (pos 0x1000) ∷ pop rsp ∷ write_cr3 rdx ∷ put_long rdx 0 ∷ swapgs ∷ sysretq ∷ []
+    ∷ pop rcx ∷ pop rdx ∷ pop r11 ∷ read_cr3 rdx ∷ or rdx (pos 0x1000) ∷ pop rsp ∷ write_cr3 rdx ∷ put_long rdx
+    0 ∷ swapgs ∷ sysretq ∷ []
 
 -- an entry with a frame, whose CS lies in `cs`; `kernel` is the label of the part for an interrupted kernel, and `skip`
 -- takes the error code away
 abbrev pub frame_entry : ℕ → Mem → ℕ → ℕ → List Line → List Line
 frame_entry at cs kernel handler skip =
-    At at ∷ test_user cs ∷ jz kernel ∷ swapgs ∷ save ++ kernel_cr3 ++ call handler ∷ user_cr3 ++ restore ++ skip ++ swapgs ∷ iretq
+    At at ∷ test_user cs ∷ jz kernel ∷ swapgs ∷ save ++ kernel_cr3 ++ call
+    handler ∷ user_cr3 ++ restore ++ skip ++ swapgs ∷ iretq
     ∷ At kernel ∷ save ++ call handler ∷ restore ++ skip ++ iretq ∷ []
 
--- the GS base and CR3 of an entry that may interrupt any code: EBX says whether the kernel's GS base was put in place, R14
+-- the GS base and CR3 of an entry that may interrupt any code: EBX says whether the kernel's GS base was put in place,
+-- R14
 -- keeps CR3
 abbrev pub paranoid : ℕ → ℕ → ℕ → List Line
 paranoid has_gs keep_gs handler =
     put_long rcx 0xc0000101 ∷ rdmsr ∷ put_long rbx 0 ∷ test_long rdx ∷ js has_gs ∷ swapgs ∷ put_long rbx 1
-    ∷ At has_gs ∷ read_cr3 r14 ∷ copy rax r14 ∷ and rax (negsuc 0x1000) ∷ write_cr3 rax ∷ call handler ∷ write_cr3 r14 ∷ test_long rbx ∷ jz keep_gs ∷ swapgs
+    ∷ At has_gs ∷ read_cr3 r14 ∷ copy rax r14 ∷ and rax (negsuc 0x1000) ∷ write_cr3 rax ∷ call handler ∷ write_cr3
+    r14 ∷ test_long rbx ∷ jz keep_gs ∷ swapgs
     ∷ At keep_gs ∷ restore ++ iretq ∷ []
 
 abbrev pub interrupt_entry : List Line
 interrupt_entry = frame_entry 0xffffffff81000100 (from rsp 8) 0xffffffff81000160 0xffffffff81800010 []
 
 abbrev pub page_fault_entry : List Line
-page_fault_entry = frame_entry 0xffffffff81000200 (from rsp 16) 0xffffffff81000264 0xffffffff81800020 (add rsp (pos 8) ∷ [])
+page_fault_entry = frame_entry 0xffffffff81000200 (from rsp 16) 0xffffffff81000264 0xffffffff81800020
+    (add rsp (pos 8) ∷ [])
 
 abbrev pub debug_entry : List Line
 debug_entry = At 0xffffffff81001000 ∷ save ++ paranoid 0xffffffff81001033 0xffffffff81001058 0xffffffff81800030
@@ -186,7 +194,8 @@ nmi_entry = At 0xffffffff81001100 ∷ save ++ paranoid 0xffffffff81001133 0xffff
 
 abbrev pub machine_check_entry : List Line
 machine_check_entry =
-    At 0xffffffff81001200 ∷ test_user (from rsp 8) ∷ jz 0xffffffff81001260 ∷ swapgs ∷ save ++ kernel_cr3 ++ call 0xffffffff81800050
+    At 0xffffffff81001200 ∷ test_user (from rsp 8) ∷ jz 0xffffffff81001260 ∷ swapgs ∷ save ++ kernel_cr3 ++ call
+    0xffffffff81800050
     ∷ user_cr3 ++ restore ++ swapgs ∷ iretq
     ∷ At 0xffffffff81001260 ∷ put_long rcx 0xc0000101 ∷ rdmsr ∷ test_long rdx ∷ js 0xffffffff81001272 ∷ swapgs
     ∷ At 0xffffffff81001272 ∷ kernel_cr3 ++ call 0xffffffff81800060 ∷ []
@@ -200,7 +209,8 @@ moving_nmi_entry =
     ∷ cmp rax (negsuc 0x7bff8fff) ∷ jnz 0xffffffff81001135
     ∷ At 0xffffffff81001132 ∷ pop rax ∷ iretq
     ∷ At 0xffffffff81001135 ∷ copy rax rsp ∷ put rsp (negsuc 0x7bff5fff)
-    ∷ push_from (from rax 0x28) ∷ push_from (from rax 0x20) ∷ push_from (from rax 0x18) ∷ push_from (from rax 0x10) ∷ push_from (from rax 8)
+    ∷ push_from (from rax 0x28) ∷ push_from (from rax 0x20) ∷ push_from (from rax 0x18) ∷ push_from
+    (from rax 0x10) ∷ push_from (from rax 8)
     ∷ push_from (from rax 0) ∷ drop 1 save ++ paranoid 0xffffffff81001182 0xffffffff810011a7 0xffffffff81800040
 
 -- ---- the samples
@@ -212,7 +222,8 @@ abbrev pub s1_lines : List Line
 s1_lines = syscall_entry ++ interrupt_entry ++ page_fault_entry ++ debug_entry ++ nmi_entry ++ machine_check_entry
 
 abbrev pub s2_lines : List Line
-s2_lines = syscall_entry ++ interrupt_entry ++ page_fault_entry ++ debug_entry ++ moving_nmi_entry ++ machine_check_entry
+s2_lines = syscall_entry ++ interrupt_entry ++ page_fault_entry ++ debug_entry ++ moving_nmi_entry ++
+    machine_check_entry
 
 -- S0 is a jump to itself, EB FE
 unfoldable pub sample_image : Sample → List ℕ
@@ -223,7 +234,9 @@ sample_image S2 = image_of load_address s2_lines
 unfoldable pub sample_config : Sample → List ℕ
 sample_config S0 = text.head ++ text.quiet_entry ++ text.stacks ++ text.user ++ text.one_entry_gates ++ text.cpu
 sample_config S1 =
-    text.head ++ text.entry ++ text.stacks ++ text.user ++ text.gates ++ text.handlers ++ text.nmi_handler ++ text.other_handlers ++ text.cpu
+    text.head ++ text.entry ++ text.stacks ++ text.user ++ text.gates ++ text.handlers ++ text.nmi_handler ++
+    text.other_handlers ++ text.cpu
 sample_config S2 =
-    text.head ++ text.quiet_entry ++ text.stacks ++ text.work_stack ++ text.user ++ text.gates ++ text.handlers ++ text.faulting_nmi_handler
+    text.head ++ text.quiet_entry ++ text.stacks ++ text.work_stack ++ text.user ++ text.gates ++ text.handlers ++
+    text.faulting_nmi_handler
     ++ text.other_handlers ++ text.cpu

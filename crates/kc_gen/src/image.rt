@@ -3,7 +3,7 @@
 ghost use Rattle.std.specs.Prelude.{◌≡◌, ◌≤◌, ◌-◌, ◌++◌, replicate, IsTrue, OnOk, IfOk};
 ghost use Rattle.kc_encode.specs.Canonical.{canonical_bytes};
 ghost use Rattle.kc_gen.specs.declared.line.Line.TheVariants.{Code};
-ghost use Rattle.kc_gen.specs.Image.{line_bytes, behind, image_of, can_stand, within, is_listing};
+ghost use Rattle.kc_gen.specs.Image.{line_bytes, reached, image_of, can_stand, within, is_listing};
 
 use crate::line::Line;
 use kc_encode::{EncodeFault, encode};
@@ -37,7 +37,7 @@ fn put_gap(out: &mut Vec<u8>, at: u64, to: u64) -> Result<(), NoMemory>
     Ok(())
 }
 
-/// Adds a line where `at` is reached, and answers the address behind it.
+/// Adds a line where `at` is reached, and answers the address after it.
 fn put_line(
     alloc: Global,
     out: &mut Vec<u8>,
@@ -46,8 +46,8 @@ fn put_line(
     line: Line,
 ) -> Result<u64, NoMemory>
     requires stands { IsTrue (can_stand at line) }
-    requires fits { IsTrue (within load (behind at line)) }
-    ensures { IfOk result (λ next. (out.new.items ≡ out.old.items ++ line_bytes at line) × (next ≡ behind at line)) }
+    requires fits { IsTrue (within load (reached at line)) }
+    ensures { IfOk result (λ next. (out.new.items ≡ out.old.items ++ line_bytes at line) × (next ≡ reached at line)) }
 {
     match line {
         Line::At(to) => {
@@ -63,11 +63,11 @@ fn put_line(
 }
 
 /// The raw image of a listing: `ENTRYRAW`, the load address, and the chosen spellings of the
-/// instructions, each behind the line before it. A listing that ends with an `At` is filled up to
+/// instructions, each after the line before it. A listing that ends with an `At` is filled up to
 /// that address.
 pub fn assemble(alloc: Global, load: u64, lines: &[Line]) -> Result<Vec<u8>, NoMemory>
-    requires { IsTrue (is_listing load load lines.now) }
-    ensures { IfOk result (λ image. image.items ≡ image_of load lines.now) }
+    requires listing { IsTrue (is_listing load load lines.now) }
+    ensures image { IfOk result (λ image. image.items ≡ image_of load lines.now) }
 {
     let mut out = Vec::new(alloc);
     out.extend_from_slice(b"ENTRYRAW")?;

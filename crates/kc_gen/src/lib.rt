@@ -6,8 +6,6 @@ mod kind;
 mod line;
 mod listing;
 mod samples;
-#[cfg(test)]
-mod tests;
 mod texts;
 
 pub use image::assemble;

@@ -18,7 +18,7 @@ use std::alloc::Global;
 
 const LOAD: u64 = 0xffff_ffff_8100_0000;
 
-/// The lines of these parts, one part behind the other.
+/// The lines of these parts, one part after the other.
 fn joined(alloc: Global, parts: &[&[Line]]) -> Result<Vec<Line>, NoMemory>
     ensures { IfOk result (λ v. v.items ≡ flat_map (λ p. p.now) parts.now) }
 {
@@ -29,7 +29,7 @@ fn joined(alloc: Global, parts: &[&[Line]]) -> Result<Vec<Line>, NoMemory>
     Ok(lines)
 }
 
-/// The text of these parts, one part behind the other.
+/// The text of these parts, one part after the other.
 fn joined_text(alloc: Global, parts: &[&str]) -> Result<Vec<u8>, NoMemory>
     ensures { IfOk result (λ v. v.items ≡ flat_map (λ p. p.now) parts.now) }
 {

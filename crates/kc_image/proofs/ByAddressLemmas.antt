@@ -1,4 +1,7 @@
--- Segments by address: what the greatest first address up to a place tells of all of them.
+-- Segments by address. The claims: the segment with the greatest first address up to a says which one holds a and
+-- whether a range that ends after a meets any. Plan: of two segments that begin up to a the one that begins first ends
+-- before the other begins, since no address lies in both (`greatest_is`); so only the greatest can reach a. Then each
+-- question is asked of it alone, and one segment more keeps the map (`IsByAddress-push`). omega compares the ends.
 use Rattle.std.proofs.Common.{◌≡◌, ℕ, zero, suc, ◌-◌, ◌<◌, ◌≤◌, true, false, ltb, max, min, List, [], ◌∷◌, ◌++◌, length, get_or, Option, Some, None, refl, sym, ap, subst, ◌∙◌, inl, inr, arith, nat_cmp}
 use Rattle.std.specs.Prelude.{Contains, IsSome}
 use Rattle.std.specs.Bool.{then_some}
@@ -11,19 +14,17 @@ use Rattle.std.proofs.lemmas.List.Folds.{list_any_none, list_any_at}
 use Rattle.std.proofs.lemmas.List.Elements.{Contains-push_cases, Contains-append_left, Contains-push, Contains-get_or}
 use Rattle.std.proofs.lemmas.Map.Lookups.{exact_unsigned}
 use Rattle.std.proofs.lemmas.Map.Views.{tells_apart}
+use Rattle.kc_rules.proofs.AnswerLemmas.{some_is}
 use Rattle.kc_words.specs.Range.{Range}
 use Rattle.kc_words.specs.Span.{Holds, Meets}
 use Rattle.kc_image.specs.declared.segments.Place.{Place}
 use Rattle.kc_image.specs.Image.{holds, meets, meets_any, place_of_address}
-use Rattle.kc_image.specs.ByAddress.{IsByAddress}
+use Rattle.kc_image.specs.AddressSteps.{IsByAddress}
 
 pub not_gt : (a b : ℕ) → a ≤ b → is_gt (nat_cmp a b) ≡ false
 not_gt a b le =
     by_ranked (a < b) (a ≡ b) (b < a) (nat_cmp a b) (ranked a b (nat_cmp a b) refl)
     (λ e _. ap is_gt e) (λ e _. ap is_gt e) (λ e gt. absurd (omega arith))
-
-pub some_is : {A : Type 0} (x y : A) → Some x ≡ Some y → x ≡ y
-some_is x y e = cc
 
 -- ---- the tests
 
@@ -45,9 +46,11 @@ meets-from r s h =
     let lt : max r.from s.from < min r.to s.to = ltb-true _ _ h in
     (max r.from s.from, (omega (arith, lt), omega (arith, lt)), (omega (arith, lt), omega (arith, lt)))
 
-pub no_meet : (list : List Place) (v q : Place) (a : ℕ) → meets_any v.span list ≡ false → Contains list q → Holds v.span a → Holds q.span a → ⊥
+pub no_meet : (list : List Place) (v q : Place) (a : ℕ) → meets_any v.span list ≡ false → Contains list q
+    → Holds v.span a → Holds q.span a → ⊥
 no_meet list v q a none has h k =
-    let at : meets v.span (get_or list has.0 q).span ≡ true = subst (λ (p : Place). meets v.span p.span ≡ true) (sym has.2) (meets_true v.span q.span a h k) in
+    let at : meets v.span (get_or list has.0 q).span ≡ true =
+    subst (λ (p : Place). meets v.span p.span ≡ true) (sym has.2) (meets_true v.span q.span a h k) in
     both_ways (meets_any v.span list) none (list_any_at (λ p. meets v.span p.span) list has.0 q has.1 at)
 
 -- ---- the entry of the greatest first address up to a
@@ -59,7 +62,8 @@ pub record IsGreatest (list : List Place) (a : ℕ) (v : Place) : Type 0 where
   pub filled : v.span.from < v.span.to
   pub greatest : (p : Place) → Contains list p → p.span.from < p.span.to → p.span.from ≤ a → p.span.to ≤ v.span.to
 
-pub greatest_is : (list : List Place) (map : BTreeMap ℕ Place) (a k : ℕ) (v : Place) → IsByAddress list map → k ≤ a → get nat_cmp map k ≡ Some v
+pub greatest_is : (list : List Place) (map : BTreeMap ℕ Place) (a k : ℕ) (v : Place) → IsByAddress list map → k ≤ a
+    → get nat_cmp map k ≡ Some v
     → ((q : ℕ) → q ≤ a → IsSome (get nat_cmp map q) → q ≤ k) → IsGreatest list a v
 greatest_is list map a k v by le e up =
     let l = by.listed k v e in
@@ -86,7 +90,8 @@ greatest_is list map a k v by le e up =
     }
 
 -- a place that holds a is the one found
-pub holder_is : (list : List Place) (map : BTreeMap ℕ Place) (a : ℕ) (v : Place) → IsByAddress list map → IsGreatest list a v → (p : Place) → Contains list p → Holds p.span a → p ≡ v
+pub holder_is : (list : List Place) (map : BTreeMap ℕ Place) (a : ℕ) (v : Place) → IsByAddress list map
+    → IsGreatest list a v → (p : Place) → Contains list p → Holds p.span a → p ≡ v
 holder_is list map a v by g p has h =
     let past = g.greatest p has (omega (arith, h.0, h.1)) h.0 in
     by.apart p v a has g.member h (g.begins, omega (arith, h.1))
@@ -104,19 +109,22 @@ meets_any_before list map r by full none =
     elim (cases_lt p.span.from p.span.to) [
       | inl filled ↦ elim (cases_lt p.span.from r.to) [
         | inl before ↦
-            let here : Some p ≡ None = sym (by.found p (Contains-get_or list k d lt) filled) ∙ none p.span.from (omega arith) in
+            let here : Some p ≡ None =
+            sym (by.found p (Contains-get_or list k d lt) filled) ∙ none p.span.from (omega arith) in
             absurd cc
         | inr past ↦ le-ltb _ _ (omega arith)
       ]
       | inr empty ↦ le-ltb _ _ (omega arith)
     ]))
 
-pub meets_any_greatest : (list : List Place) (r : Range) (v : Place) → r.from < r.to → IsGreatest list (r.to - 1) v → ltb r.from v.span.to ≡ meets_any r list
+pub meets_any_greatest : (list : List Place) (r : Range) (v : Place) → r.from < r.to → IsGreatest list (r.to - 1) v
+    → ltb r.from v.span.to ≡ meets_any r list
 meets_any_greatest list r v full g =
     elim (cases_lt r.from v.span.to) [
       | inl lt ↦
           let here : meets r v.span ≡ true = lt-ltb _ _ (omega (arith, g.begins, g.filled)) in
-          let at : meets r (get_or list g.member.0 v).span ≡ true = subst (λ (p : Place). meets r p.span ≡ true) (sym g.member.2) here in
+          let at : meets r (get_or list g.member.0 v).span ≡ true =
+          subst (λ (p : Place). meets r p.span ≡ true) (sym g.member.2) here in
           lt-ltb _ _ lt ∙ sym (list_any_at (λ p. meets r p.span) list g.member.0 v g.member.1 at)
       | inr ge ↦
           le-ltb _ _ ge ∙ sym (list_any_none (λ p. meets r p.span) list (λ k d lt.
@@ -139,10 +147,12 @@ Contains-tail x xs p has = (suc has.0, omega (arith, has.1), has.2)
 Contains-head : (x : Place) (xs : List Place) → Contains (x ∷ xs) x
 Contains-head x xs = (0, omega arith, refl)
 
-pub place_none : (list : List Place) (a : ℕ) → ((p : Place) → Contains list p → Holds p.span a → ⊥) → None ≡ place_of_address list a
+pub place_none : (list : List Place) (a : ℕ) → ((p : Place) → Contains list p → Holds p.span a → ⊥)
+    → None ≡ place_of_address list a
 place_none [] a absent = refl
 place_none (x ∷ xs) a absent =
-    rw (holds_false x.span a (absent x (Contains-head x xs))) (place_none xs a (λ p has. absent p (Contains-tail x xs p has)))
+    rw (holds_false x.span a (absent x (Contains-head x xs)))
+    (place_none xs a (λ p has. absent p (Contains-tail x xs p has)))
 
 place_at : (list : List Place) (k : ℕ) (v : Place) (a : ℕ) → k < length list → get_or list k v ≡ v → Holds v.span a
     → ((p : Place) → Contains list p → Holds p.span a → p ≡ v) → Some v ≡ place_of_address list a
@@ -161,16 +171,19 @@ pub place_some : (list : List Place) (v : Place) (a : ℕ) → Contains list v �
 place_some list v a has h only = place_at list has.0 v a has.1 has.2 h only
 
 -- the answer of a search for a
-pub place_found : (list : List Place) (map : BTreeMap ℕ Place) (a : ℕ) (v : Place) → IsByAddress list map → IsGreatest list a v
+pub place_found : (list : List Place) (map : BTreeMap ℕ Place) (a : ℕ) (v : Place) → IsByAddress list map
+    → IsGreatest list a v
     → then_some (ltb a v.span.to) v ≡ place_of_address list a
 place_found list map a v by g =
     elim (cases_lt a v.span.to) [
       | inl lt ↦ rw (lt-ltb a v.span.to lt) (place_some list v a g.member (g.begins, lt) (holder_is list map a v by g))
       | inr ge ↦
-          rw (le-ltb a v.span.to ge) (place_none list a (λ p has h. omega (arith, h.0, h.1, g.greatest p has (omega (arith, h.0, h.1)) h.0)))
+          rw (le-ltb a v.span.to ge)
+          (place_none list a (λ p has h. omega (arith, h.0, h.1, g.greatest p has (omega (arith, h.0, h.1)) h.0)))
     ]
 
-pub place_missing : (list : List Place) (map : BTreeMap ℕ Place) (a : ℕ) → IsByAddress list map → ((q : ℕ) → q ≤ a → get nat_cmp map q ≡ None) → None ≡ place_of_address list a
+pub place_missing : (list : List Place) (map : BTreeMap ℕ Place) (a : ℕ) → IsByAddress list map
+    → ((q : ℕ) → q ≤ a → get nat_cmp map q ≡ None) → None ≡ place_of_address list a
 place_missing list map a by none =
     place_none list a (λ p has h.
     let here : Some p ≡ None = sym (by.found p has (omega (arith, h.0, h.1))) ∙ none p.span.from h.0 in
@@ -178,9 +191,11 @@ place_missing list map a by none =
 
 -- ---- one place more
 
-holds_both : (list : List Place) (v : Place) → ((p q : Place) (a : ℕ) → Contains list p → Contains list q → Holds p.span a → Holds q.span a → p ≡ q)
+holds_both : (list : List Place) (v : Place)
+    → ((p q : Place) (a : ℕ) → Contains list p → Contains list q → Holds p.span a → Holds q.span a → p ≡ q)
     → ((q : Place) (a : ℕ) → Contains list q → Holds v.span a → Holds q.span a → ⊥)
-    → (p q : Place) (a : ℕ) → Contains (list ++ v ∷ []) p → Contains (list ++ v ∷ []) q → Holds p.span a → Holds q.span a → p ≡ q
+    → (p q : Place) (a : ℕ) → Contains (list ++ v ∷ []) p → Contains (list ++ v ∷ []) q → Holds p.span a
+    → Holds q.span a → p ≡ q
 holds_both list v apart none p q a has_p has_q h k =
     elim (Contains-push_cases list v p has_p) [
       | inl old_p ↦ elim (Contains-push_cases list v q has_q) [
@@ -195,13 +210,16 @@ holds_both list v apart none p q a has_p has_q h k =
 
 pub IsByAddress-none : (map : BTreeMap ℕ Place) → map.entries ≡ [] → IsByAddress [] map
 IsByAddress-none map e = record {
-  listed = λ k p f. let nothing : Some p ≡ None = sym f ∙ ap (λ (es : List (ℕ × Place)). lookup (is_at (nat_cmp k)) es) e in absurd cc;
+  listed = λ k p f.
+      let nothing : Some p ≡ None = sym f ∙ ap (λ (es : List (ℕ × Place)). lookup (is_at (nat_cmp k)) es) e in
+      absurd cc;
   found = λ p has full. absurd (omega (arith, has.1));
   apart = λ p q a has_p has_q h k. absurd (omega (arith, has_p.1));
 }
 
 -- a place without an address
-pub IsByAddress-empty : (list : List Place) (map : BTreeMap ℕ Place) (v : Place) → IsByAddress list map → v.span.to ≤ v.span.from → IsByAddress (list ++ v ∷ []) map
+pub IsByAddress-empty : (list : List Place) (map : BTreeMap ℕ Place) (v : Place) → IsByAddress list map
+    → v.span.to ≤ v.span.from → IsByAddress (list ++ v ∷ []) map
 IsByAddress-empty list map v by empty = record {
   listed = λ k p e. let l = by.listed k p e in (Contains-append_left list (v ∷ []) p l.0, l.1, l.2);
   found = λ p has full.
@@ -212,7 +230,8 @@ IsByAddress-empty list map v by empty = record {
   apart = holds_both list v by.apart (λ q a has h k. omega (arith, h.0, h.1));
 }
 
-pub IsByAddress-push : (list : List Place) (map new : BTreeMap ℕ Place) (v : Place) → IsByAddress list map → meets_any v.span list ≡ false → v.span.from < v.span.to
+pub IsByAddress-push : (list : List Place) (map new : BTreeMap ℕ Place) (v : Place) → IsByAddress list map
+    → meets_any v.span list ≡ false → v.span.from < v.span.to
     → Updates nat_cmp map new v.span.from (Some v) → IsByAddress (list ++ v ∷ []) new
 IsByAddress-push list map new v by none filled updates = record {
   listed = λ k p e.

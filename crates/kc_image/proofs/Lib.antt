@@ -1,6 +1,7 @@
 pub mod ApartLemmas
 pub mod ByAddressLemmas
-pub mod ByNameLemmas
 pub mod LoadedLemmas
+pub mod SymbolLemmas
 pub mod TableLemmas
 pub mod TextLemmas
+pub mod IndexLemmas

@@ -12,7 +12,11 @@ pub record Segment : Type 0 where
   pub range : Range
   pub bytes : List ℕ
 
--- the segments, and each kept symbol's name and address, both in the file's order
+-- each kept symbol's name and address
+abbrev pub Symbols : Type 0
+Symbols = List (List ℕ × ℕ)
+
+-- the segments, and the kept symbols, both in the file's order
 pub record Contents : Type 0 where
   pub segments : List Segment
   pub symbols : List (List ℕ × ℕ)
@@ -25,7 +29,7 @@ abbrev pub segments_at : List ℕ → List Place → List Segment
 segments_at file places = map (segment_at file) places
 
 -- what the file holds at these places, with these symbols
-abbrev pub contents : List ℕ → List Place → List (List ℕ × ℕ) → Contents
+abbrev pub contents : List ℕ → List Place → Symbols → Contents
 contents file places symbols = record { segments = segments_at file places; symbols = symbols }
 
 -- address a lies in the range
@@ -45,8 +49,8 @@ abbrev pub place_of_address : List Place → ℕ → Option Place
 place_of_address [] a = None
 place_of_address (p ∷ ps) a = if holds p.span a then Some p else place_of_address ps a
 
--- The loaded byte at address a: that of the segment that holds it, 0 past the segment's bytes in the file. An address in
--- no segment has none.
+-- The loaded byte at address a: that of the segment that holds it, 0 past the segment's bytes in the file. An address
+-- in no segment has none.
 abbrev pub loaded : List Segment → ℕ → Option ℕ
 loaded [] a = None
 loaded (s ∷ ss) a = if holds s.range a then Some (slice_index s.bytes (a - s.range.from)) else loaded ss a
@@ -56,10 +60,10 @@ abbrev pub AreApart : List Segment → Type 0
 AreApart ss = AllPairs (λ s t. ¬ Meets s.range t.range) ss
 
 -- the address of the first symbol of this name
-abbrev pub address_of : List (List ℕ × ℕ) → List ℕ → Option ℕ
+abbrev pub address_of : Symbols → List ℕ → Option ℕ
 address_of symbols name = lookup (bytes_eq name) symbols
 
--- a byte, where there is one, and those behind it
+-- a byte, where there is one, and those after it
 abbrev pub followed : Option ℕ → List ℕ → List ℕ
 followed None rest = []
 followed (Some b) rest = b ∷ rest

@@ -2,7 +2,7 @@
 use Rattle.std.specs.Prelude.{ℕ, List, [], Result, Ok, if◌then◌else◌}
 use Rattle.kc_image.specs.declared.fault.ImageFault.{ImageFault}
 use Rattle.kc_image.specs.declared.elf.TheConstants.{PHDR_SIZE, SHDR_SIZE}
-use Rattle.kc_image.specs.Verdict.{over, ◌>>=◌}
+use Rattle.kc_rules.specs.Rules.{over, ◌>>=◌}
 use Rattle.kc_image.specs.Image.{Contents, contents}
 use Rattle.kc_image.specs.FirstFault.{header, program_table, section_table, add_segment, add_section, entries}
 use Rattle.kc_image.specs.Raw.{is_raw, raw}

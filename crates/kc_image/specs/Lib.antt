@@ -1,9 +1,9 @@
 pub mod Field
 pub mod Elf
-pub mod Verdict
+pub mod Fault
 pub mod Image
-pub mod ByAddress
-pub mod ByName
 pub mod FirstFault
 pub mod Raw
 pub mod ImageFile
+pub mod AddressSteps
+pub mod SymbolSteps

@@ -6,7 +6,8 @@ use Rattle.kc_image.specs.declared.fault.ImageKind.TheVariants.{HeaderOut, Segme
 use Rattle.kc_image.specs.declared.segments.Place.{Place}
 use Rattle.kc_image.specs.declared.raw.TheConstants.{RAW_MAGIC, RAW_ADDRESS, RAW_HEADER}
 use Rattle.kc_image.specs.Field.{xword}
-use Rattle.kc_image.specs.Verdict.{refuse, ◌>>=◌}
+use Rattle.kc_rules.specs.Rules.{refuse, ◌>>=◌}
+use Rattle.kc_image.specs.Fault.{fault}
 use Rattle.kc_image.specs.Image.{Contents, contents}
 
 abbrev pub is_raw : List ℕ → Bool
@@ -22,6 +23,6 @@ code_place file =
 -- one segment and no symbols
 unfoldable pub raw : List ℕ → Result Contents ImageFault
 raw file = do
-  ok ← refuse (nat_lt (length file) RAW_HEADER) HeaderOut (length file)
-  ok ← refuse (nat_le (2 ^ 64) (xword file RAW_ADDRESS + (length file - RAW_HEADER))) SegmentOut RAW_ADDRESS
+  ok ← refuse (nat_lt (length file) RAW_HEADER) (fault HeaderOut (length file))
+  ok ← refuse (nat_le (2 ^ 64) (xword file RAW_ADDRESS + (length file - RAW_HEADER))) (fault SegmentOut RAW_ADDRESS)
   Ok (contents file (code_place file ∷ []) [])

@@ -1,7 +1,8 @@
 //! Why an image file is refused, this project's own.
 
 ghost use Rattle.std.specs.Prelude.{◌≡◌};
-ghost use Rattle.kc_image.specs.Verdict.{refuse, no_memory};
+ghost use Rattle.kc_rules.specs.Rules.{refuse};
+ghost use Rattle.kc_image.specs.Fault.{fault, no_memory};
 
 use std::alloc::{AllocError, AllocFailed};
 
@@ -61,7 +62,7 @@ impl<T: Drop> From<AllocFailed<T>> for ImageFault {
 
 /// The fault at this place, where the rule is broken.
 pub(crate) fn refuse_if(broken: bool, kind: ImageKind, at: u64) -> Result<(), ImageFault>
-    ensures { result ≡ refuse broken kind at }
+    ensures { result ≡ refuse broken (fault kind at) }
 {
     if broken {
         Err(ImageFault { kind, at })

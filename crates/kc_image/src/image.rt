@@ -1,17 +1,20 @@
 //! Images: what an image file loads where, and its symbols.
 
-ghost use Rattle.std.specs.Prelude.{◌≡◌, ◌⊎◌, ◌-◌, ◌<◌, ◌^◌, ◌++◌, Err, Ok, IfOk, IfErr, IsSome, drop, length, slice_index};
-ghost use Rattle.kc_image.specs.Image.{AreApart, contents, segment_at, loaded, run, address_of};
+ghost use Rattle.std.specs.Prelude.{◌≡◌, ◌⊎◌, All, min, ◌-◌, ◌<◌, ◌^◌, ◌++◌, Err, Ok, IfOk, IfErr, IsSome, drop, length, slice_index};
+ghost use Rattle.kc_rules.specs.Rules.{Gives};
+ghost use Rattle.kc_image.specs.Fault.{no_memory};
+ghost use Rattle.kc_image.specs.Image.{AreApart, segment_at, loaded, run, address_of};
 ghost use Rattle.kc_image.specs.ImageFile.{elf, contents_of};
-ghost use Rattle.kc_image.specs.Verdict.{Gives, no_memory};
+ghost use Rattle.kc_image.specs.SymbolSteps.{IsTable, held_by};
 
 use crate::fault::ImageFault;
 use crate::header::{check_header, check_program_table, check_section_table};
 use crate::loads::read_segments;
 use crate::raw::{begins_raw, read_raw};
-use crate::sections::read_symbols;
+use crate::sections::read_tables;
 use crate::segments::{Place, Segments};
-use crate::symbols::Symbols;
+use crate::symbols::SymbolTables;
+use crate::tables::Table;
 use std::alloc::Global;
 use std::marker::Model;
 
@@ -23,15 +26,18 @@ use std::marker::Model;
 pub struct Image {
     file: Vec<u8>,
     segments: Segments,
-    symbols: Symbols,
+    symbols: SymbolTables,
 }
 
 impl Model for Image {
-    ghost use Rattle.kc_image.specs.Image.{Contents, contents};
+    ghost use Rattle.kc_image.specs.Image.{Contents};
+    ghost use Rattle.kc_image.specs.SymbolSteps.{AreSymbols, held_by};
 
     ghost Value = { Contents };
 
-    ghost view = { λ i. contents i.file.items i.segments i.symbols };
+    ghost view = { λ i. held_by i.file.items i.segments i.symbols.tables.items };
+
+    ghost invariant = { λ i. AreSymbols i.file.items i.symbols };
 }
 
 /// Reads an image file: a raw image where its first eight bytes are `ENTRYRAW`, and else an ELF
@@ -41,10 +47,11 @@ impl Model for Image {
 pub fn read_image(alloc: Global, bytes: Vec<u8>) -> Result<Image, ImageFault>
     ensures read { IfOk result (λ i. contents_of bytes.items ≡ Ok i) }
     ensures apart { IfOk result (λ i. AreApart i.segments) }
-    // Want of memory is said of no file.
+    // Running out of memory is said of no file.
     ensures fault { IfErr result (λ e. (e ≡ no_memory) ⊎ (contents_of bytes.items ≡ Err e)) }
 {
-    let (segments, symbols) = read_parts(alloc, &bytes)?;
+    let (segments, tables) = read_parts(alloc, &bytes)?;
+    let symbols = SymbolTables::new(alloc, &bytes, tables)?;
     Ok(Image {
         file: bytes,
         segments,
@@ -52,26 +59,29 @@ pub fn read_image(alloc: Global, bytes: Vec<u8>) -> Result<Image, ImageFault>
     })
 }
 
-fn read_parts(alloc: Global, file: &[u8]) -> Result<(Segments, Symbols), ImageFault>
-    ensures { Gives (λ r. contents file.now r.0 r.1) result (contents_of file.now) }
+/// The places of the segments, and the symbol tables.
+fn read_parts(alloc: Global, file: &[u8]) -> Result<(Segments, Vec<Table>), ImageFault>
+    ensures parts { Gives no_memory (λ r. held_by file.now r.0 r.1.items) result (contents_of file.now) }
+    ensures tables { IfOk result (λ r. All (IsTable file.now) r.1.items) }
 {
     if begins_raw(file) {
-        read_raw(alloc, file)
+        Ok((read_raw(alloc, file)?, Vec::new(alloc)))
     } else {
         read_elf(alloc, file)
     }
 }
 
 #[tactic(auto, unfolding(crate::specs::ImageFile::elf))]
-fn read_elf(alloc: Global, file: &[u8]) -> Result<(Segments, Symbols), ImageFault>
-    ensures { Gives (λ r. contents file.now r.0 r.1) result (elf file.now) }
+fn read_elf(alloc: Global, file: &[u8]) -> Result<(Segments, Vec<Table>), ImageFault>
+    ensures parts { Gives no_memory (λ r. held_by file.now r.0 r.1.items) result (elf file.now) }
+    ensures tables { IfOk result (λ r. All (IsTable file.now) r.1.items) }
 {
     let header = check_header(file)?;
     check_program_table(file, &header)?;
     check_section_table(file, &header)?;
     let segments = read_segments(alloc, file, &header)?;
-    let symbols = read_symbols(alloc, file, &header)?;
-    Ok((segments, symbols))
+    let tables = read_tables(alloc, file, &header)?;
+    Ok((segments, tables))
 }
 
 impl Image {
@@ -89,7 +99,7 @@ impl Image {
     }
 
     /// How many loaded bytes follow each other from the address on, at most 15. They are put into
-    /// the front of `buf`, and the rest of it stays.
+    /// the prefix of `buf`, and the rest of it stays.
     pub fn bytes_at(&self, a: u64, buf: &mut [u8; 15]) -> usize
         ensures count { result ≡ length (run self.now.segments a 15) }
         ensures bytes { buf.new ≡ run self.now.segments a 15 ++ drop result buf.old }
@@ -107,23 +117,24 @@ impl Image {
 
     /// How many segments the file has, those without an address included.
     pub fn segment_count(&self) -> usize
-        ensures { result ≡ length self.now.segments }
+        ensures count { result ≡ length self.now.segments }
     {
         self.segments.len()
     }
 
-    /// How many symbols are kept.
-    pub fn symbol_count(&self) -> usize
-        ensures { result ≡ length self.now.symbols }
+    /// How many symbols are kept, by going over the file's symbol tables again. A symbol of two tables over the same
+    /// bytes counts twice. The count saturates.
+    pub fn symbol_count(&self) -> u64
+        ensures count { result ≡ min (length self.now.symbols) (2 ^ 64 - 1) }
     {
-        self.symbols.len()
+        self.symbols.count(&self.file)
     }
 
     /// The address of the first kept symbol of this name.
     pub fn symbol(&self, name: &str) -> Option<u64>
-        ensures { result ≡ address_of self.now.symbols name.now }
+        ensures address { result ≡ address_of self.now.symbols name.now }
     {
-        self.symbols.find(name.as_bytes())
+        self.symbols.find(&self.file, name.as_bytes())
     }
 }
 

@@ -5,6 +5,7 @@ mod elf;
 mod fault;
 mod header;
 mod image;
+mod index;
 mod laws;
 mod loads;
 mod names;
@@ -12,10 +13,8 @@ mod raw;
 mod sections;
 mod segments;
 mod symbols;
+mod tables;
 
 pub use fault::{ImageFault, ImageKind};
 pub use image::{Image, read_image};
 pub use laws::ranges_meet_in_an_address;
-
-#[cfg(test)]
-mod tests;

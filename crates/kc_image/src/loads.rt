@@ -1,7 +1,8 @@
 //! The rules on the loaded segments of an ELF file.
 
 ghost use Rattle.std.specs.Prelude.{◌≡◌, ◌+◌, ◌≤◌, length, [], Ok};
-ghost use Rattle.kc_image.specs.Verdict.{Gives, over};
+ghost use Rattle.kc_rules.specs.Rules.{Gives, over};
+ghost use Rattle.kc_image.specs.Fault.{no_memory};
 ghost use Rattle.kc_image.specs.FirstFault.{add_load, add_segment, entries, program_table};
 
 use crate::elf::{FileHeader, PHDR_SIZE, PT_LOAD, ProgramHeader, read_program_header};
@@ -11,7 +12,7 @@ use crate::segments::{Place, Segments};
 use kc_words::Span;
 use std::alloc::Global;
 
-/// With the segment of a PT_LOAD header, which stands at this offset.
+/// With the segment of a PT_LOAD header, which is at this offset.
 #[tactic(auto, unfolding(crate::specs::FirstFault::add_load))]
 fn with_load(
     segments: Segments,
@@ -19,7 +20,7 @@ fn with_load(
     header: &ProgramHeader,
     at: u64,
 ) -> Result<Segments, ImageFault>
-    ensures { Gives (λ s. s) result (add_load file.now segments header.now at) }
+    ensures { Gives no_memory (λ s. s) result (add_load file.now segments header.now at) }
 {
     refuse_if(
         passes_end(file, header.p_offset, header.p_filesz),
@@ -54,7 +55,7 @@ fn with_load(
 #[tactic(auto, unfolding(crate::specs::FirstFault::add_segment))]
 fn with_segment(segments: Segments, file: &[u8], at: u64) -> Result<Segments, ImageFault>
     requires { at + PHDR_SIZE ≤ length file.now }
-    ensures { Gives (λ s. s) result (add_segment file.now segments at) }
+    ensures { Gives no_memory (λ s. s) result (add_segment file.now segments at) }
 {
     let header = read_program_header(file, at);
     if header.p_type == PT_LOAD {
@@ -71,7 +72,8 @@ pub(crate) fn read_segments(
     header: &FileHeader,
 ) -> Result<Segments, ImageFault>
     requires { program_table file.now header.now ≡ Ok tt }
-    ensures { Gives (λ s. s) result (over (add_segment file.now) [] (entries header.now.e_phoff PHDR_SIZE header.now.e_phnum)) }
+    ensures { Gives no_memory (λ s. s) result
+        (over (add_segment file.now) [] (entries header.now.e_phoff PHDR_SIZE header.now.e_phnum)) }
 {
     let mut segments = Segments::new(alloc);
     for i in 0..header.e_phnum {

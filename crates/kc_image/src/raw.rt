@@ -1,15 +1,15 @@
 //! Raw images, this project's own: the letters ENTRYRAW, the load address in eight little-endian
 //! bytes, and the code up to the file's end.
 
-ghost use Rattle.std.specs.Prelude.{◌≡◌};
+ghost use Rattle.std.specs.Prelude.{◌≡◌, []};
 ghost use Rattle.kc_image.specs.Image.{contents};
 ghost use Rattle.kc_image.specs.Raw.{is_raw, raw};
-ghost use Rattle.kc_image.specs.Verdict.{Gives};
+ghost use Rattle.kc_rules.specs.Rules.{Gives};
+ghost use Rattle.kc_image.specs.Fault.{no_memory};
 
 use crate::elf::read_xword;
 use crate::fault::{ImageFault, ImageKind};
 use crate::segments::{Place, Segments};
-use crate::symbols::Symbols;
 use kc_words::Span;
 use std::alloc::Global;
 
@@ -25,10 +25,10 @@ pub(crate) fn begins_raw(file: &[u8]) -> bool
     file.starts_with(&RAW_MAGIC)
 }
 
-/// The code as one segment, and no symbols.
+/// The code as one segment.
 #[tactic(auto, unfolding(crate::specs::Raw::raw))]
-pub(crate) fn read_raw(alloc: Global, file: &[u8]) -> Result<(Segments, Symbols), ImageFault>
-    ensures { Gives (λ r. contents file.now r.0 r.1) result (raw file.now) }
+pub(crate) fn read_raw(alloc: Global, file: &[u8]) -> Result<Segments, ImageFault>
+    ensures { Gives no_memory (λ s. contents file.now s []) result (raw file.now) }
 {
     let len = file.len() as u64;
     if len < RAW_HEADER {
@@ -53,6 +53,5 @@ pub(crate) fn read_raw(alloc: Global, file: &[u8]) -> Result<(Segments, Symbols)
         offset: RAW_HEADER,
         size,
     };
-    let segments = Segments::new(alloc).with(&place)?;
-    Ok((segments, Symbols::new(alloc)))
+    Segments::new(alloc).with(&place)
 }

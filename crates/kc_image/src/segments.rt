@@ -1,9 +1,9 @@
 //! The loaded segments of an image, in the file's order and by address.
 
 ghost use Rattle.std.specs.Prelude.{◌≡◌, ◌<◌, ◌-◌, ◌^◌, IsSome, ◌++◌, [], ◌∷◌, length, false, MatchResult};
-ghost use Rattle.kc_image.specs.ByAddress.{IsByAddress, IsLastUpTo};
+ghost use Rattle.kc_image.specs.AddressSteps.{IsByAddress, IsLastUpTo};
 ghost use Rattle.kc_image.specs.Image.{meets_any, place_of_address};
-ghost use Rattle.kc_image.specs.Verdict.{no_memory};
+ghost use Rattle.kc_image.specs.Fault.{no_memory};
 
 use crate::fault::ImageFault;
 use kc_words::Span;
@@ -18,7 +18,7 @@ pub(crate) struct Place {
     pub(crate) span: Span,
     /// Where its bytes begin in the file.
     pub(crate) offset: u64,
-    /// How many bytes it has in the file. They stand at its first addresses; the others are 0.
+    /// How many bytes it has in the file. They are those of its first addresses; the others are 0.
     pub(crate) size: u64,
 }
 
@@ -36,7 +36,7 @@ impl Model for Segments {
 
     ghost Value = { List Place };
 
-    ghost use Rattle.kc_image.specs.ByAddress.{IsByAddress};
+    ghost use Rattle.kc_image.specs.AddressSteps.{IsByAddress};
 
     ghost view = { λ s. s.list.items };
 

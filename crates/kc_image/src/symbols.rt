@@ -1,89 +1,51 @@
-//! The kept symbols of an image, in the file's order and by name.
+//! The kept symbols of an image: the tables that name them, and an index of their names.
 
-ghost use Rattle.std.specs.Prelude.{◌≡◌, ◌++◌, [], ◌∷◌, length, MatchResult};
+ghost use Rattle.std.specs.Prelude.{◌≡◌, ◌-◌, ◌^◌, All, IfOk, List, ℕ, length, min};
 ghost use Rattle.kc_image.specs.Image.{address_of};
-ghost use Rattle.kc_image.specs.ByName.{IsByName, Names};
-ghost use Rattle.kc_image.specs.Verdict.{no_memory};
+ghost use Rattle.kc_image.specs.SymbolSteps.{AreSymbols, IsTable, symbols_in};
 
-use crate::fault::ImageFault;
-use indexmap::IndexMap;
-use std::alloc::Global;
-use std::marker::Model;
+use crate::index::{Index, find_by_name, index_tables};
+use crate::tables::{Table, count_in_tables, find_in_tables};
+use std::alloc::{AllocError, Global};
 
-/// A symbol whose name stands at this place of the names.
-#[derive(Clone, Copy, PartialEq, Eq, Debug)]
-pub(crate) struct Symbol {
-    pub(crate) name: usize,
-    pub(crate) value: u64,
-}
-
-/// The symbols in the file's order. Each name is stored once, with the address of its first symbol.
+/// The symbol tables of a file, in their order, and their first symbols by name.
 #[derive(Drop)]
-pub(crate) struct Symbols {
-    list: Vec<Symbol>,
-    names: IndexMap<Vec<u8>, u64>,
+pub(crate) struct SymbolTables {
+    pub(crate) tables: Vec<Table>,
+    pub(crate) index: Index,
 }
 
-impl Model for Symbols {
-    ghost use Rattle.std.specs.Prelude.{List, ℕ};
-
-    ghost Value = { List (List ℕ × ℕ) };
-
-    ghost use Rattle.kc_image.specs.ByName.{IsByName, spelled};
-
-    ghost view = { λ s. spelled s.names s.list.items };
-
-    ghost invariant = { λ s. IsByName s.list.items s.names };
-}
-
-impl Symbols {
-    pub(crate) fn new(alloc: Global) -> Symbols
-        ensures { result ≡ [] }
+impl SymbolTables {
+    /// The symbols of these tables.
+    pub(crate) fn new(
+        alloc: Global,
+        file: &[u8],
+        tables: Vec<Table>,
+    ) -> Result<SymbolTables, AllocError>
+        requires { All (IsTable file.now) tables.items }
+        ensures tables { IfOk result (λ s. s.tables.items ≡ tables.items) }
+        ensures valid { IfOk result (AreSymbols file.now) }
     {
-        Symbols {
-            list: Vec::new(alloc),
-            names: IndexMap::new(alloc),
+        let index = index_tables(alloc, file, &tables)?;
+        Ok(SymbolTables { tables, index })
+    }
+
+    /// How many there are; the count saturates.
+    pub(crate) fn count(&self, file: &[u8]) -> u64
+        requires { AreSymbols file.now self.now }
+        ensures { result ≡ min (length (symbols_in file.now self.now.tables.items)) (2 ^ 64 - 1) }
+    {
+        count_in_tables(file, &self.tables)
+    }
+
+    /// The address of the first symbol of this name: by the index, and then in the tables that it leaves out.
+    pub(crate) fn find(&self, file: &[u8], name: &[u8]) -> Option<u64>
+        requires { AreSymbols file.now self.now }
+        ensures { result ≡ address_of (symbols_in file.now self.now.tables.items) name.now }
+    {
+        match find_by_name(file, &self.index.names, name) {
+            Some(value) => Some(value),
+            None => find_in_tables(file, &self.tables[self.index.tables..], name),
         }
     }
-
-    pub(crate) fn len(&self) -> usize
-        ensures { result ≡ length self.now }
-    {
-        self.list.len()
-    }
-
-    /// With one symbol more.
-    pub(crate) fn with(self, alloc: Global, name: &[u8], value: u64) -> Result<Symbols, ImageFault>
-        ensures { MatchResult result (λ s. s ≡ self ++ (name.now, value) ∷ []) (λ e. e ≡ no_memory) }
-    {
-        let Symbols { list, names } = self;
-        let (names, place) = with_name(names, alloc, name, value)?;
-        let mut list = list;
-        list.push(Symbol { name: place, value })?;
-        Ok(Symbols { list, names })
-    }
-
-    /// The address of the first symbol of this name.
-    pub(crate) fn find(&self, name: &[u8]) -> Option<u64>
-        ensures { result ≡ address_of self.now name.now }
-    {
-        self.names.get(name).copied()
-    }
-}
-
-/// With this name, and its place; a name that is new takes the address.
-fn with_name(
-    mut names: IndexMap<Vec<u8>, u64>,
-    alloc: Global,
-    name: &[u8],
-    address: u64,
-) -> Result<(IndexMap<Vec<u8>, u64>, usize), ImageFault>
-    ensures { MatchResult result (λ r. Names names name.now address r.0 r.1) (λ e. e ≡ no_memory) }
-{
-    if let Some(place) = names.get_index_of(name) {
-        return Ok((names, place));
-    }
-    let place = names.len();
-    names.insert(Vec::from_slice(alloc, name)?, address)?;
-    Ok((names, place))
 }

@@ -1,5 +1,5 @@
 -- The fields of an instruction's bytes: Intel SDM vol. 2, "Instruction Format".
-use Rattle.std.specs.Prelude.{◌≡◌, ◌≢◌, ℕ, zero, suc, ◌+◌, ◌*◌, ◌%◌, ◌^◌, ◌<◌, Bool, true, false, ◌==◌, ◌&&◌, if◌then◌else◌, List, [], ◌∷◌, Option, Some, None, ℤ, pos}
+use Rattle.std.specs.Prelude.{◌≡◌, ◌≢◌, ℕ, suc, ◌+◌, ◌-◌, ◌*◌, ◌%◌, ◌^◌, ◌<◌, Bool, true, false, ◌==◌, ◌&&◌, if◌then◌else◌, List, [], ◌∷◌, Option, Some, None, ℤ, pos, negsuc, nat_lt}
 use Rattle.std.specs.Int.{w8, w32, w64, cast_signed, cast_unsigned}
 use Rattle.kc_words.specs.declared.width.Width.{Width}
 use Rattle.kc_words.specs.declared.width.Width.TheVariants.{Byte, Long, Quad}
@@ -58,11 +58,9 @@ width_of rex = if w_bit rex then Quad else Long
 
 -- ---- numbers in the bytes
 
--- n bytes that stand for a signed number; no bytes stand for 0
+-- the signed number that v stands for in n bytes, as two's complement; 0 in no bytes
 abbrev pub signed : ℕ → ℕ → ℤ
-signed zero v = pos 0
-signed (suc zero) v = cast_signed w8 v
-signed (suc (suc n)) v = cast_signed w32 v
+signed n v = if nat_lt v (2 ^ (8 * n - 1)) then pos v else negsuc (2 ^ (8 * n) - suc v)
 
 abbrev pub IsSigned : ℕ → List ℕ → ℤ → Type 0
 IsSigned n bytes z = (v : ℕ) × IsNumber n bytes v × (z ≡ signed n v)
@@ -102,22 +100,32 @@ base_of special rex mode field = if mode == 0 && field == 5 then special else ba
 
 -- index 4 without REX.X is no index
 abbrev pub index_of : Option Rex → ℕ → ℕ → Option (Reg × ℕ)
-index_of rex scale index = if (worth (x_bit rex) 8 + index) == 4 then None else Some (extended (x_bit rex) index, 2 ^ scale)
+index_of rex scale index =
+    if (worth (x_bit rex) 8 + index) == 4 then None else Some (extended (x_bit rex) index, 2 ^ scale)
 
--- the bytes behind the ModRM byte of a memory operand
+-- the bytes after the ModRM byte of a memory operand
 pub data IsMemory (gs : Bool) (rex : Option Rex) (mode rm : ℕ) (bytes : List ℕ) (mem : Mem) : Type 0 where
   -- base register or RIP, and a displacement
   no_sib : (disp : ℤ) → rm ≢ 4 → x_bit rex ≡ false → IsSigned (disp_bytes mode rm) bytes disp
-      → mem ≡ record { gs = gs; base = base_of base.Rip rex mode rm; index = None; disp = disp } → IsMemory gs rex mode rm bytes mem
+      → mem ≡ record { gs = gs; base = base_of base.Rip rex mode rm; index = None; disp = disp }
+      → IsMemory gs rex mode rm bytes mem
   -- a SIB byte, and a displacement
   sib : (scale index field : ℕ) (rest : List ℕ) (disp : ℤ) → rm ≡ 4 → scale < 4 → index < 8 → field < 8
       → bytes ≡ (64 * scale + 8 * index + field) ∷ rest → IsSigned (disp_bytes mode field) rest disp
-      → mem ≡ record { gs = gs; base = base_of base.Absent rex mode field; index = index_of rex scale index; disp = disp } → IsMemory gs rex mode rm bytes mem
+      → mem ≡ record {
+        gs = gs;
+        base = base_of base.Absent rex mode field;
+        index = index_of rex scale index;
+        disp =
+            disp;
+      } → IsMemory gs rex mode rm bytes mem
 
--- the bytes behind the ModRM byte of any operand rm
+-- the bytes after the ModRM byte of any operand rm
 pub data IsRm (gs : Bool) (rex : Option Rex) (mode rm : ℕ) (bytes : List ℕ) (operand : Place) : Type 0 where
-  in_register : mode ≡ 3 → gs ≡ false → x_bit rex ≡ false → bytes ≡ [] → operand ≡ place.Reg (extended (b_bit rex) rm) → IsRm gs rex mode rm bytes operand
-  in_memory : (mem : Mem) → mode < 3 → IsMemory gs rex mode rm bytes mem → operand ≡ place.Mem mem → IsRm gs rex mode rm bytes operand
+  in_register : mode ≡ 3 → gs ≡ false → x_bit rex ≡ false → bytes ≡ [] → operand ≡ place.Reg (extended (b_bit rex) rm)
+      → IsRm gs rex mode rm bytes operand
+  in_memory : (mem : Mem) → mode < 3 → IsMemory gs rex mode rm bytes mem → operand ≡ place.Mem mem
+      → IsRm gs rex mode rm bytes operand
 
 -- the ModRM byte with this reg field, and what belongs to its operand rm
 pub record IsOperand (gs : Bool) (rex : Option Rex) (reg : ℕ) (bytes : List ℕ) (operand : Place) : Type 0 where

@@ -15,7 +15,7 @@ use Rattle.kc_insn.specs.declared.insn.Insn.{Insn}
 use Rattle.kc_insn.specs.declared.insn.Insn.TheVariants.{Nop, Endbr64, Lfence, Ud2, Cld, Clac, Stac, Cli, Sti, Swapgs, Sysretq, Iretq, Rdmsr, Wrmsr, Pushfq, Popfq, Ret, ReadCr3, WriteCr3, ReadGs, WriteGs, Mov, Xchg, Push, Pop, Alu, Test, Jcc, Jmp, Call}
 use Rattle.kc_insn.specs.Fields.{Size, ib, id, source_of}
 
--- What stands behind the opcode, and the instruction that it makes. A function from numbers says
+-- What stands after the opcode, and the instruction that it makes. A function from numbers says
 -- which values of a ModRM byte's reg field (/n) or of a last opcode byte a row has.
 pub data Form : Type 0 where
   -- nothing
@@ -66,7 +66,8 @@ pub data Row : Type 0 where
 abbrev pub lookup : ℕ → List Row → Option Form
 lookup op [] = None
 lookup op (row key form ∷ rest) = if op == key then Some form else lookup op rest
-lookup op (rows first count form ∷ rest) = if nat_le first op && nat_lt op (first + count) then Some (form (op - first)) else lookup op rest
+lookup op (rows first count form ∷ rest) =
+    if nat_le first op && nat_lt op (first + count) then Some (form (op - first)) else lookup op rest
 
 -- one value alone
 abbrev pub only : {A : Type 0} → ℕ → A → ℕ → Option A
@@ -188,7 +189,7 @@ one_byte =
     -- 90         NOP
     row 0x90 (plain Nop) ∷ []
 
--- SDM vol. 2, "Two-Byte Opcode Map", behind 0F
+-- SDM vol. 2, "Two-Byte Opcode Map", after 0F
 unfoldable pub two_byte : List Row
 two_byte =
     -- 0F BA /4, /5, /6 ib   BT, BTS, BTR r/m, imm8
@@ -196,7 +197,8 @@ two_byte =
     -- 0F 80+c cd            Jcc rel32
     rows 0x80 16 (λ c. relative (Jcc c) id) ∷
     -- 0F 01 F8  SWAPGS;  0F 01 CA  CLAC;  0F 01 CB  STAC
-    row 0x01 (last_byte (λ b. if b == 0xF8 then Some Swapgs else if b == 0xCA then Some Clac else if b == 0xCB then Some Stac else None)) ∷
+    row 0x01 (last_byte (λ b. if b == 0xF8 then Some Swapgs else if b == 0xCA then Some Clac else if b == 0xCB then
+    Some Stac else None)) ∷
     -- REX.W 0F 07           SYSRETQ
     row 0x07 (plain_w Sysretq) ∷
     -- 0F 32                 RDMSR
@@ -214,7 +216,7 @@ two_byte =
     -- 0F 1F /0              NOP r/m
     row 0x1F rm_unused ∷ []
 
--- behind F3, a REX byte where there is one, and 0F
+-- after F3, a REX byte where there is one, and 0F
 unfoldable pub two_byte_f3 : List Row
 two_byte_f3 =
     -- F3 REX.W 0F AE /1  RDGSBASE r64;  /3  WRGSBASE r64

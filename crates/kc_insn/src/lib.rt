@@ -7,6 +7,3 @@ mod rex;
 
 pub use insn::{AluOp, Base, BitOp, Insn, Mem, Place, Reg, Source};
 pub use rex::Rex;
-
-#[cfg(test)]
-mod tests;

@@ -1,6 +1,10 @@
--- What is known of the bytes of a sink after several writes.
-use Rattle.std.proofs.Common.{ℕ, List, [], ◌++◌, sym, append_assoc, append-nil}
-use Rattle.std.specs.Prelude.{Option, Some, None}
+-- The bytes of a sink after several writes. By cases of whether the sink reports its bytes: where it does, each write
+-- is
+-- an equation of lists, and two of them compose by the associativity of `++`. No number is left to `omega` but that a
+-- count above 0 isn't 0.
+use Rattle.std.proofs.Common.{◌≡◌, ℕ, zero, suc, ◌<◌, List, [], ◌++◌, refl, sym, append_assoc, append-nil, arith}
+use Rattle.std.specs.Prelude.{Option, Some, None, Ok}
+use Rattle.kc_io.specs.Sink.{refused_length}
 use Rattle.std.specs.Io.KnownBytes.{Appends}
 
 -- two pieces one after the other are their joined bytes
@@ -14,3 +18,8 @@ Appends-both (Some old) (Some mid) (Some new) xs ys first second = rw (second, f
 pub Appends-none : (a : Option (List ℕ)) → Appends a a []
 Appends-none None = tt
 Appends-none (Some old) = sym (append-nil old)
+
+-- a write that takes some bytes refuses nothing
+pub taken_some : (refused n : ℕ) (piece : List ℕ) → 0 < n → refused_length refused (Ok n) piece ≡ refused
+taken_some refused zero piece some = absurd (omega arith)
+taken_some refused (suc n) piece some = refl

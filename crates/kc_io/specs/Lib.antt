@@ -1,4 +1,5 @@
 pub mod Count
 pub mod Files
+pub mod ReadSteps
 pub mod Sink
 pub mod Memory

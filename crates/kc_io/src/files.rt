@@ -1,9 +1,9 @@
-//! Files that can be read at a place.
+//! Files that can be read from an offset on.
 
-ghost use Rattle.std.specs.Prelude.{◌≡◌, ℕ, ◌≤◌, List, Option, OnErr};
+ghost use Rattle.std.specs.Prelude.{◌≡◌};
 ghost use Rattle.std.specs.Io.{ReadsAtMost};
-ghost use Rattle.kc_io.specs.Count.{Rose};
-ghost use Rattle.kc_io.specs.Files.{Held, Reads};
+ghost use Rattle.std.specs.Prelude.{OnErr};
+ghost use Rattle.kc_io.specs.Files.{FilesState, FilesKept, HasFailed, HasTaken, Reads, given};
 
 /// A call that failed.
 #[derive(Clone, Copy, PartialEq, Eq, Debug)]
@@ -11,22 +11,16 @@ pub struct Failed;
 
 /// Files by name. What is held stays as it is.
 pub trait Files {
-    /// The bytes of each name that is held, where the object tells it.
-    ghost held: { Self → Option Held };
-
-    /// For each name, how often reads of it have failed. A count stands still at 2^64 - 1.
-    ghost faults: { Self → List ℕ → ℕ };
-
-    /// The numbers of the calls that fail by plan, counted from 0.
-    ghost failing: { Self → List ℕ };
+    /// What contracts see: the bytes of each name, where the object reports them, counts of faults
+    /// and of bytes, and the failures that are planned. Each count saturates at 2^64 - 1.
+    ghost state: { Self → FilesState };
 
     /// Reads bytes of the named file into `buf`, from the byte `at` of the file on, and answers how
     /// many: 0 only at the file's end or where `buf` is empty. A name that isn't held fails.
     fn read_at(&mut self, name: &str, at: u64, buf: &mut [u8]) -> Result<usize, Failed>
         ensures bound { ReadsAtMost result buf.new }
-        ensures bytes { Reads (held self.old) name.now at result buf.new }
-        ensures cause { OnErr result (Rose (faults self.old name.now) (faults self.new name.now)) }
-        ensures later { (n : List ℕ) → faults self.old n ≤ faults self.new n }
-        ensures held { held self.new ≡ held self.old }
-        ensures failing { failing self.new ≡ failing self.old };
+        ensures bytes { Reads (state self.old).held name.now at result buf.new }
+        ensures taken { HasTaken (state self.old) (state self.new) (given result) }
+        ensures cause { OnErr result (HasFailed (state self.old) (state self.new) name.now) }
+        ensures kept { FilesKept (state self.old) (state self.new) };
 }

@@ -1,10 +1,10 @@
 //! Standard output, at the program's edge.
 
-ghost use Rattle.std.specs.Prelude.{None, []};
+ghost use Rattle.std.specs.Prelude.{◌≡◌, None, []};
 
 use crate::{Failed, Sink};
 
-/// Standard output. It tells nothing of what reached it. What it writes is trusted and tested, not
+/// Standard output. It doesn't report what reached it. What it writes is trusted and tested, not
 /// proved.
 #[derive(Drop)]
 pub struct HostSink<'a, R> {
@@ -15,8 +15,11 @@ pub struct HostSink<'a, R> {
 }
 
 impl<'a, R> HostSink<'a, R> {
-    /// The standard output of `rt`.
-    pub fn new(rt: &'a R) -> HostSink<'a, R> {
+    /// The standard output of `rt`; it has refused nothing.
+    pub fn new(rt: &'a R) -> HostSink<'a, R>
+        ensures faults { result.faults ≡ 0 }
+        ensures refused { result.refused ≡ 0 }
+    {
         HostSink {
             rt,
             faults: 0,
@@ -26,13 +29,12 @@ impl<'a, R> HostSink<'a, R> {
 }
 
 impl<'a, R: Print> Sink for HostSink<'a, R> {
-    ghost written = { λ s. None };
-
-    ghost faults = { λ s. s.faults };
-
-    ghost refused = { λ s. s.refused };
-
-    ghost plan = { λ s. record { failing = []; room = None } };
+    ghost state = { λ s. record {
+      written = None;
+      faults = s.faults;
+      refused = s.refused;
+      plan = record { failing = []; room = None };
+    } };
 
     fn write(&mut self, piece: &[u8]) -> Result<usize, Failed> {
         match self.rt.write_some(piece) {

@@ -1,10 +1,11 @@
 //! Files in memory, whose reads fail where it was planned.
 
-ghost use Rattle.std.specs.Prelude.{◌≡◌, ◌^◌, ◌+◌, ◌-◌, ◌<◌, ◌≤◌, ◌==◌, ◌||◌, min, List, ℕ, [], OnErr, Some, is_err, is_none, length, take, drop, option_copied, option_map, position, bytes_eq, string_bytes};
+ghost use Rattle.std.specs.Prelude.{◌≡◌, ◌^◌, ◌-◌, ◌≤◌, ◌==◌, ◌||◌, List, ℕ, [], OnErr, Some, is_err, is_none, length};
+ghost use Rattle.std.specs.Prelude.{option_copied, option_map, position, bytes_eq, string_bytes};
 ghost use Rattle.std.specs.Io.{ReadsAtMost};
 ghost use Rattle.std.specs.List.{list_any};
-ghost use Rattle.kc_io.specs.Count.{Rose};
-ghost use Rattle.kc_io.specs.Files.{ReadsFile, Reads};
+ghost use Rattle.kc_io.specs.Count.{saturated};
+ghost use Rattle.kc_io.specs.Files.{FilesKept, HasFailed, HasTaken, ReadsFile, Reads, given};
 ghost use Rattle.kc_io.specs.Memory.{file_of, shared_count};
 
 use crate::{Failed, Files};
@@ -22,16 +23,21 @@ pub struct MemFiles {
     held_faults: u64,
     /// How often another name has failed.
     other_faults: u64,
+    /// How many bytes were read.
+    taken: u64,
     ghost quiet: { failing.items ≡ [] → held_faults ≡ 0 },
 }
 
 impl MemFiles {
-    /// Files of these names, each with the bytes at its place. Where a name stands twice, the first
-    /// counts; a name without bytes isn't held. The calls whose numbers stand in `failing` fail.
+    /// Files of these names, each with the bytes at its index. Where a name is there twice, the
+    /// first counts; a name without bytes isn't held. The calls whose numbers are in `failing` fail.
     pub fn new(names: Vec<String>, bytes: Vec<Vec<u8>>, failing: Vec<u64>) -> MemFiles
-        ensures held { ⟦<MemFiles as Files>⟧.held result ≡ Some (file_of names.items bytes.items) }
-        ensures faults { (n : List ℕ) → ⟦<MemFiles as Files>⟧.faults result n ≡ 0 }
-        ensures failing { ⟦<MemFiles as Files>⟧.failing result ≡ failing.items }
+        ensures held { (⟦<MemFiles as Files>⟧.state result).held ≡ Some (file_of names.items bytes.items) }
+        ensures faults { (n : List ℕ) → (⟦<MemFiles as Files>⟧.state result).faults n ≡ 0 }
+        ensures failing { (⟦<MemFiles as Files>⟧.state result).failing ≡ failing.items }
+        ensures taken { (⟦<MemFiles as Files>⟧.state result).taken ≡ 0 }
+        // The first call has the number 0.
+        ensures first { result.next ≡ 0 }
     {
         MemFiles {
             names,
@@ -40,12 +46,13 @@ impl MemFiles {
             next: 0,
             held_faults: 0,
             other_faults: 0,
+            taken: 0,
         }
     }
 }
 
-/// The place of the first of the names that is this one.
-fn place_of(names: &[String], name: &str) -> Option<usize>
+/// The index of the first of the names that is this one.
+fn index_of(names: &[String], name: &str) -> Option<usize>
     ensures { result ≡ position (λ n. bytes_eq name.now (string_bytes n)) names.now }
 {
     names.iter().position(|n| name == n.as_str())
@@ -55,13 +62,13 @@ fn place_of(names: &[String], name: &str) -> Option<usize>
 fn find<'a>(names: &[String], bytes: &'a [Vec<u8>], name: &str) -> Option<&'a Vec<u8>>
     ensures { option_map (λ v. v.items) (option_copied result) ≡ file_of names.now bytes.now name.now }
 {
-    match place_of(names, name) {
-        Some(place) => bytes.get(place),
+    match index_of(names, name) {
+        Some(index) => bytes.get(index),
         None => None,
     }
 }
 
-/// Copies bytes of the file from `at` on to the front of `buf`, as many as there are and have room.
+/// Copies bytes of the file from `at` on to the start of `buf`, as many as there are and have room.
 fn copy_from(file: &[u8], at: u64, buf: &mut [u8]) -> usize
     ensures within { result ≤ length buf.new }
     ensures reads { ReadsFile file.now at result buf.new }
@@ -74,24 +81,26 @@ fn copy_from(file: &[u8], at: u64, buf: &mut [u8]) -> usize
 }
 
 impl Files for MemFiles {
-    ghost held = { λ m. Some (file_of m.names.items m.bytes.items) };
-
-    ghost faults = { λ m n. shared_count (file_of m.names.items m.bytes.items n) m.held_faults m.other_faults };
-
-    ghost failing = { λ m. m.failing.items };
+    ghost state = { λ m. record {
+      held = Some (file_of m.names.items m.bytes.items);
+      faults = λ n. shared_count (file_of m.names.items m.bytes.items n) m.held_faults m.other_faults;
+      failing = m.failing.items;
+      taken = m.taken;
+    } };
 
     fn read_at(&mut self, name: &str, at: u64, buf: &mut [u8]) -> Result<usize, Failed>
         ensures bound { ReadsAtMost result buf.new }
-        ensures bytes { Reads (Some (file_of self.old.names.items self.old.bytes.items)) name.now at result buf.new }
-        ensures cause { OnErr result (Rose (⟦<MemFiles as Files>⟧.faults self.old name.now) (⟦<MemFiles as Files>⟧.faults self.new name.now)) }
-        ensures later { (n : List ℕ) → ⟦<MemFiles as Files>⟧.faults self.old n ≤ ⟦<MemFiles as Files>⟧.faults self.new n }
-        ensures held { ⟦<MemFiles as Files>⟧.held self.new ≡ ⟦<MemFiles as Files>⟧.held self.old }
-        ensures failing { self.new.failing.items ≡ self.old.failing.items }
+        ensures bytes { Reads (⟦<MemFiles as Files>⟧.state self.old).held name.now at result buf.new }
+        ensures taken { HasTaken (⟦<MemFiles as Files>⟧.state self.old)
+            (⟦<MemFiles as Files>⟧.state self.new) (given result) }
+        ensures cause { OnErr result (HasFailed (⟦<MemFiles as Files>⟧.state self.old)
+            (⟦<MemFiles as Files>⟧.state self.new) name.now) }
+        ensures kept { FilesKept (⟦<MemFiles as Files>⟧.state self.old) (⟦<MemFiles as Files>⟧.state self.new) }
 
         // Exactly the planned calls fail, and those for a name that isn't held.
         ensures fails { is_err result ≡ (is_none (file_of self.old.names.items self.old.bytes.items name.now)
             || list_any (λ n. n == self.old.next) self.old.failing.items) }
-        ensures next { self.new.next ≡ min (self.old.next + 1) (2 ^ 64 - 1) }
+        ensures next { self.new.next ≡ saturated self.old.next 1 }
     {
         let call = self.next;
         self.next = call.saturating_add(1);
@@ -103,6 +112,8 @@ impl Files for MemFiles {
             self.held_faults = self.held_faults.saturating_add(1);
             return Err(Failed);
         }
-        Ok(copy_from(file, at, buf))
+        let count = copy_from(file, at, buf);
+        self.taken = self.taken.saturating_add(count as u64);
+        Ok(count)
     }
 }

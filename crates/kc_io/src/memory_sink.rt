@@ -1,10 +1,12 @@
 //! A sink in memory, which refuses pieces where it was planned or where they pass its room.
 
-ghost use Rattle.std.specs.Prelude.{◌≡◌, ◌≢◌, ◌+◌, ◌-◌, ◌^◌, ◌<◌, ◌≤◌, ◌==◌, ◌||◌, min, nat_lt, [], length, is_err, Some, IfOk, vec_len, vec_capacity};
+ghost use Rattle.std.specs.Prelude.{◌≡◌, ◌≢◌, ◌+◌, ◌-◌, ◌^◌, ◌<◌, ◌≤◌, ◌==◌, ◌||◌, nat_lt, [], length, is_err, Some};
+ghost use Rattle.std.specs.Prelude.{IfOk, vec_len, vec_capacity};
 ghost use Rattle.std.specs.Io.{WritesAtMost};
 ghost use Rattle.std.specs.Io.KnownBytes.{WriteAppends};
 ghost use Rattle.std.specs.List.{list_any};
-ghost use Rattle.kc_io.specs.Sink.{Plan, CountsRefusal, refused_length};
+ghost use Rattle.kc_io.specs.Count.{saturated, Rose};
+ghost use Rattle.kc_io.specs.Sink.{SinkState, SinkKept, Plan, IsRefusal, refused_length};
 
 use crate::{Failed, Sink};
 use kc_plain::NoMemory;
@@ -28,11 +30,16 @@ pub struct MemSink {
 }
 
 impl MemSink {
-    /// An empty sink for `room` bytes. The calls whose numbers stand in `failing` fail.
+    /// An empty sink for `room` bytes. The calls whose numbers are in `failing` fail.
     pub fn new(alloc: Global, room: usize, failing: Vec<u64>) -> Result<MemSink, NoMemory>
-        ensures written { IfOk result (λ s. ⟦<MemSink as Sink>⟧.written s ≡ Some []) }
-        ensures faults { IfOk result (λ s. ⟦<MemSink as Sink>⟧.faults s ≡ 0) }
-        ensures plan { IfOk result (λ s. ⟦<MemSink as Sink>⟧.plan s ≡ record { failing = failing.items; room = Some room }) }
+        ensures empty { IfOk result (λ s. ⟦<MemSink as Sink>⟧.state s ≡ record {
+          written = Some [];
+          faults = 0;
+          refused = 0;
+          plan = record { failing = failing.items; room = Some room };
+        }) }
+        // The first call has the number 0.
+        ensures first { IfOk result (λ s. s.next ≡ 0) }
     {
         let mut bytes = Vec::new(alloc);
         bytes.reserve_exact(room)?;
@@ -48,33 +55,32 @@ impl MemSink {
 
     /// What was written.
     pub fn bytes(&self) -> &[u8]
-        ensures { ⟦<MemSink as Sink>⟧.written self.now ≡ Some result.now }
+        ensures written { (⟦<MemSink as Sink>⟧.state self.now).written ≡ Some result.now }
     {
         &self.bytes
     }
 }
 
 impl Sink for MemSink {
-    ghost written = { λ s. Some s.bytes.items };
-
-    ghost faults = { λ s. s.faults };
-
-    ghost refused = { λ s. s.refused };
-
-    ghost plan = { λ s. record { failing = s.failing.items; room = Some s.room } };
+    ghost state = { λ s. record {
+      written = Some s.bytes.items;
+      faults = s.faults;
+      refused = s.refused;
+      plan = record { failing = s.failing.items; room = Some s.room };
+    } };
 
     fn write(&mut self, piece: &[u8]) -> Result<usize, Failed>
         ensures bound { WritesAtMost result piece.now }
         ensures bytes { WriteAppends (Some self.old.bytes.items) (Some self.new.bytes.items) result piece.now }
-        ensures cause { CountsRefusal self.old.faults self.new.faults result piece.now }
+        ensures cause { IsRefusal result piece.now → Rose self.old.faults self.new.faults }
         ensures refused { self.new.refused ≡ refused_length self.old.refused result piece.now }
-        ensures plan { ⟦<MemSink as Sink>⟧.plan self.new ≡ ⟦<MemSink as Sink>⟧.plan self.old }
+        ensures kept { SinkKept (⟦<MemSink as Sink>⟧.state self.old) (⟦<MemSink as Sink>⟧.state self.new) }
 
         // Exactly the planned calls fail, and those whose piece would pass the room.
         ensures fails { is_err result ≡ (list_any (λ n. n == self.old.next) self.old.failing.items
             || nat_lt self.old.room (vec_len self.old.bytes + length piece.now)) }
         ensures whole { IfOk result (λ n. n ≡ length piece.now) }
-        ensures next { self.new.next ≡ min (self.old.next + 1) (2 ^ 64 - 1) }
+        ensures next { self.new.next ≡ saturated self.old.next 1 }
     {
         let call = self.next;
         self.next = call.saturating_add(1);

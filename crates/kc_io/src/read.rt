@@ -1,8 +1,8 @@
 //! Reading a whole file.
 
-ghost use Rattle.std.specs.Prelude.{◌≡◌, ◌+◌, ◌<◌, ◌≤◌, List, ℕ, length, take, vec_len, IfOk, OnOk, OnErr};
-ghost use Rattle.kc_io.specs.Count.{Rose};
-ghost use Rattle.kc_io.specs.Files.{IsWhole, IsFront, IsLonger, IsAtLeast};
+ghost use Rattle.std.specs.Prelude.{◌≡◌, ◌+◌, ◌<◌, ◌≤◌, length, take, vec_len, IfOk, OnOk, OnErr};
+ghost use Rattle.kc_io.specs.Files.{FilesKept, HasFailed, HasTaken, IsWhole, IsLonger, given};
+ghost use Rattle.kc_io.specs.ReadSteps.{IsPrefix, IsAtLeast};
 
 use crate::{Failed, Files};
 use std::alloc::{AllocError, Global};
@@ -14,7 +14,7 @@ pub enum ReadEnd {
     Fault,
     /// One byte more than the limit was taken.
     TooLong,
-    /// There was no memory for the bytes.
+    /// Out of memory for the bytes.
     NoMemory,
 }
 
@@ -43,13 +43,15 @@ impl From<AllocError> for ReadEnd {
 /// The least room for a read, but near the limit.
 const PIECE: usize = 65_536;
 
-/// Makes room behind the first `filled` bytes: twice the length, but no more than one byte past the
+/// Makes room after the first `filled` bytes: twice the length, but no more than one byte past the
 /// limit in all.
 fn make_room(buffer: &mut Vec<u8>, filled: usize, limit: usize) -> Result<(), AllocError>
     requires within { filled ≤ vec_len buffer.old }
     requires below { filled ≤ limit }
+    requires bounded { vec_len buffer.old ≤ limit + 1 }
     ensures kept { OnOk result (take filled buffer.new.items ≡ take filled buffer.old.items) }
     ensures room { OnOk result (filled < vec_len buffer.new) }
+    ensures bounded { OnOk result (vec_len buffer.new ≤ limit + 1) }
 {
     if buffer.len() - filled >= PIECE {
         return Ok(());
@@ -66,7 +68,7 @@ fn make_room(buffer: &mut Vec<u8>, filled: usize, limit: usize) -> Result<(), Al
     Ok(())
 }
 
-/// One read, behind the first `filled` bytes of the buffer, which are the file's first.
+/// One read, after the first `filled` bytes of the buffer, which are the file's first.
 fn read_piece<F: Files>(
     files: &mut F,
     name: &str,
@@ -74,34 +76,36 @@ fn read_piece<F: Files>(
     filled: usize,
 ) -> Result<usize, Failed>
     requires room { filled < length buffer.old }
-    requires front { IsFront (F.held files.old) name.now (take filled buffer.old) }
+    requires prefix { IsPrefix (F.state files.old).held name.now (take filled buffer.old) }
     ensures within { IfOk result (λ n. filled + n ≤ length buffer.new) }
-    ensures front { IfOk result (λ n. IsFront (F.held files.old) name.now (take (filled + n) buffer.new)) }
-    ensures end { IfOk result (λ n. n ≡ 0 → IsWhole (F.held files.old) name.now (take filled buffer.new)) }
-    ensures longer { IfOk result (λ n. 0 < n → IsAtLeast (F.held files.old) name.now (filled + n)) }
-    ensures cause { OnErr result (Rose (F.faults files.old name.now) (F.faults files.new name.now)) }
-    ensures later { (n : List ℕ) → F.faults files.old n ≤ F.faults files.new n }
-    ensures held { F.held files.new ≡ F.held files.old }
-    ensures failing { F.failing files.new ≡ F.failing files.old }
+    ensures len { length buffer.new ≡ length buffer.old }
+    ensures prefix { IfOk result (λ n. IsPrefix (F.state files.old).held name.now (take (filled + n) buffer.new)) }
+    ensures end { IfOk result (λ n. n ≡ 0 → IsWhole (F.state files.old).held name.now (take filled buffer.new)) }
+    ensures longer { IfOk result (λ n. 0 < n → IsAtLeast (F.state files.old).held name.now (filled + n)) }
+    ensures taken { HasTaken (F.state files.old) (F.state files.new) (given result) }
+    ensures cause { OnErr result (HasFailed (F.state files.old) (F.state files.new) name.now) }
+    ensures kept { FilesKept (F.state files.old) (F.state files.new) }
 {
     let count = files.read_at(name, filled as u64, &mut buffer[filled..])?;
     Ok(count)
 }
 
-/// Reads all bytes of the named file, at most `limit` of them.
+/// Reads all bytes of the named file, at most `limit` of them. It takes no more than one byte past
+/// the limit, and then answers `TooLong`.
 pub fn read_all<F: Files>(
     alloc: Global,
     files: &mut F,
     name: &str,
     limit: u64,
 ) -> Result<Vec<u8>, ReadEnd>
-    ensures whole { IfOk result (λ v. IsWhole (F.held files.old) name.now v.items) }
+    ensures whole { IfOk result (λ v. IsWhole (F.state files.old).held name.now v.items) }
     ensures within { IfOk result (λ v. length v.items ≤ limit) }
-    ensures fault { result ≡ Err ReadEnd.Fault → Rose (F.faults files.old name.now) (F.faults files.new name.now) }
-    ensures too_long { result ≡ Err ReadEnd.TooLong → IsLonger (F.held files.old) name.now limit }
-    ensures later { (n : List ℕ) → F.faults files.old n ≤ F.faults files.new n }
-    ensures held { F.held files.new ≡ F.held files.old }
-    ensures failing { F.failing files.new ≡ F.failing files.old }
+    ensures taken { IfOk result (λ v. HasTaken (F.state files.old) (F.state files.new) (length v.items)) }
+    ensures fault { result ≡ Err ReadEnd.Fault → HasFailed (F.state files.old) (F.state files.new) name.now }
+    ensures too_long { result ≡ Err ReadEnd.TooLong → IsLonger (F.state files.old).held name.now limit }
+    ensures one_more { result ≡ Err ReadEnd.TooLong → HasTaken (F.state files.old) (F.state files.new) (limit + 1) }
+    ensures at_most { (F.state files.new).taken ≤ (F.state files.old).taken + limit + 1 }
+    ensures kept { FilesKept (F.state files.old) (F.state files.new) }
 {
     let most = usize::try_from(limit).unwrap_or(usize::MAX);
     let mut buffer = Vec::new(alloc);

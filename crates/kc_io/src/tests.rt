@@ -1,11 +1,19 @@
 //! What no clause says: the adapters over the real files and output, and that calls succeed.
 
-use crate::{Files, HostFiles, HostSink, MemFiles, MemSink, ReadEnd, Sink, read_all, write_all};
-use std::alloc::{AllocError, Global};
-use std::fs;
-use std::test::Fail;
+ghost use Rattle.std.specs.Prelude.{◌≡◌, IfOk};
 
-/// Bytes whose values tell their places.
+use crate::{
+    Failed, Files, HostFiles, HostSink, MemFiles, MemSink, ReadEnd, Sink, read_all, write_all,
+};
+use std::alloc::{AllocError, Global};
+use std::cell::Cell;
+use std::fmt::Display;
+use std::io::{ErrorKind, Write};
+use std::os::fd::AsRawFd;
+use std::test::Fail;
+use std::{fs, io};
+
+/// Bytes whose values show their offsets.
 fn counted(alloc: Global, len: u32) -> Result<Vec<u8>, AllocError> {
     let mut bytes = Vec::new(alloc);
     for i in 0..len {
@@ -72,7 +80,8 @@ fn files_in_memory_are_read_whole(rt: HostRuntime) -> Result<(), Fail> {
     let mut failing = Vec::new(alloc);
     failing.push(1)?;
     let mut files = two_files(alloc, bytes, failing)?;
-    assert!(rt; read_all(alloc, &mut files, "full", 200_000).is_err());
+    let cut = read_all(alloc, &mut files, "full", 200_000);
+    assert!(rt; cut.expect_err(&rt, "the second read fails") == ReadEnd::Fault);
     Ok(())
 }
 
@@ -93,7 +102,111 @@ fn a_sink_in_memory_takes_what_has_room(rt: HostRuntime) -> Result<(), Fail> {
 }
 
 #[test]
-fn standard_output_takes_a_line(rt: HostRuntime) {
-    let mut sink = HostSink::new(&rt);
-    assert!(rt; write_all(&mut sink, b"kc_io\n").is_ok());
+fn a_file_replaced_while_it_is_read_is_read_to_its_end(rt: HostRuntime) -> Result<(), Fail> {
+    let alloc = rt.alloc();
+    let (name, other) = ("kc_io_replaced.bin", "kc_io_replacing.bin");
+    fs::write(&rt, name, b"first and second".as_slice())?;
+    fs::write(&rt, other, b"FIRST AND SECOND".as_slice())?;
+    let mut files = HostFiles::new(&rt);
+    let mut piece = [0; 6];
+    assert!(rt; files.read_at(name, 0, &mut piece) == Ok(6));
+    fs::rename(&rt, other, name)?;
+    let mut rest = [0; 20];
+    assert!(rt; files.read_at(name, 6, &mut rest) == Ok(10));
+    assert!(rt; rest.starts_with(b"and second"));
+    assert!(rt; files.read_at(name, 16, &mut rest) == Ok(0));
+    let anew = read_all(alloc, &mut files, name, 100);
+    fs::remove_file(&rt, name)?;
+    assert!(rt; anew.expect(&rt, "read again").as_slice() == b"FIRST AND SECOND".as_slice());
+    Ok(())
+}
+
+#[test]
+fn a_pipe_is_read_without_a_seek(rt: HostRuntime) -> Result<(), Fail> {
+    let alloc = rt.alloc();
+    let bytes = counted(alloc, 10_000)?;
+    let (reader, mut writer) = io::pipe(&rt)?;
+    writer.write_all(bytes.as_slice())?;
+    drop(writer);
+    let name = format!(in alloc; "/proc/self/fd/{}", reader.as_raw_fd())?;
+    let read = read_all(alloc, &mut HostFiles::new(&rt), name.as_str(), 20_000);
+    assert!(rt; read.expect(&rt, "read whole").as_slice() == bytes.as_slice());
+    Ok(())
+}
+
+#[test]
+fn a_read_that_fails_is_no_end(rt: HostRuntime) {
+    // A directory is opened, and then each read of it fails.
+    let mut files = HostFiles::new(&rt);
+    let mut piece = [0; 7];
+    assert!(rt; files.read_at(".", 0, &mut piece) == Err(Failed));
+    assert!(rt; files.read_at(".", 0, &mut piece) == Err(Failed));
+    let whole = read_all(rt.alloc(), &mut files, ".", 100);
+    assert!(rt; whole.expect_err(&rt, "each read fails") == ReadEnd::Fault);
+}
+
+/// Standard output that takes at most three bytes at once, and only the letters of the alphabet in
+/// their order, `left` of them. Then it fails, or answers that it took none.
+#[derive(Drop)]
+struct Narrow {
+    taken: Cell<u8>,
+    left: u8,
+    fails: bool,
+}
+
+impl Narrow {
+    fn refuse(&self) -> io::Result<usize>
+        ensures none { IfOk result (λ n. n ≡ 0) }
+    {
+        if self.fails {
+            Err(io::Error::from(ErrorKind::StorageFull))
+        } else {
+            Ok(0)
+        }
+    }
+}
+
+impl Print for Narrow {
+    fn print<D: Display + Drop>(&self, _value: D) -> io::Result<()> {
+        Err(io::Error::from(ErrorKind::Unsupported))
+    }
+
+    fn println<D: Display + Drop>(&self, _value: D) -> io::Result<()> {
+        Err(io::Error::from(ErrorKind::Unsupported))
+    }
+
+    fn write_all(&self, _bytes: &[u8]) -> io::Result<()> {
+        Err(io::Error::from(ErrorKind::Unsupported))
+    }
+
+    fn write_some(&self, bytes: &[u8]) -> io::Result<usize> {
+        let taken = self.taken.get();
+        let most = self.left.saturating_sub(taken).min(3);
+        let count = bytes.len().min(usize::from(most));
+        if count == 0 || bytes[0] != b'a'.saturating_add(taken) {
+            return self.refuse();
+        }
+        self.taken.set(taken.saturating_add(count as u8));
+        Ok(count)
+    }
+}
+
+#[test]
+fn a_partial_write_goes_on_and_a_failing_one_ends(rt: HostRuntime) {
+    for (left, fails, done) in [
+        (8, true, true),
+        (8, false, true),
+        (7, true, false),
+        (5, false, false),
+    ] {
+        let out = Narrow {
+            taken: Cell::new(0),
+            left,
+            fails,
+        };
+        let end = write_all(&mut HostSink::new(&out), b"abcdefgh");
+        assert!(rt; end.is_ok() == done, "{left}");
+        assert!(rt; out.taken.get() == left, "{left}");
+    }
+    assert!(rt; write_all(&mut HostSink::new(&rt), b"kc_io\n").is_ok());
 }

@@ -1,4 +1,6 @@
 -- One turn of a loop over lists, place by place, and the bound that a join of many keeps.
+-- Each loop has done the places before an index and left those after it. A turn moves one item over: the lemmas split
+-- a list at the index (take and drop) and say what a fact on the whole is on the two parts and the item between them.
 use Rattle.std.proofs.Common.{◌≡◌, ℕ, suc, ◌+◌, ◌<◌, Bool, true, List, [], ◌∷◌, ◌++◌, length, get_or, take, drop, All, sym, ap, ◌∙◌, refl, add-one, drop-cons}
 use Rattle.std.proofs.lemmas.List.{take_more}
 use Rattle.std.proofs.lemmas.List.Elements.{All-nil, All-cons, All-head, All-tail, All-push}
@@ -10,12 +12,15 @@ module _ {A : Type 0} where
   pub drop_read : (xs : List A) (i : ℕ) (x : A) → i < length xs → x ≡ get_or xs i x → drop i xs ≡ x ∷ drop (i + 1) xs
   drop_read xs i x h e = rw add-one (drop-cons xs i x h ∙ ap (λ (y : A). y ∷ drop (suc i) xs) (sym e))
 
-  pub take_read : (xs : List A) (i : ℕ) (x : A) → i < length xs → x ≡ get_or xs i x → take (i + 1) xs ≡ take i xs ++ x ∷ []
+  pub take_read : (xs : List A) (i : ℕ) (x : A) → i < length xs → x ≡ get_or xs i x
+      → take (i + 1) xs ≡ take i xs ++ x ∷ []
   take_read xs i x h e = take_more xs i x h ∙ ap (λ (y : A). take i xs ++ y ∷ []) (sym e)
 
 module _ {A B : Type 0} where
-  pub AllZip-read : (R : A → B → Type 0) (xs : List A) (ys : List B) (i : ℕ) (x : A) (y : B) → i < length xs → i < length ys →
-      x ≡ get_or xs i x → y ≡ get_or ys i y → AllZip R (drop i xs) (drop i ys) ≡ (R x y × AllZip R (drop (i + 1) xs) (drop (i + 1) ys))
+  pub AllZip-read : (R : A → B → Type 0) (xs : List A) (ys : List B) (i : ℕ) (x : A) (y : B) → i < length xs
+      → i < length ys →
+      x ≡ get_or xs i x → y ≡ get_or ys i y
+      → AllZip R (drop i xs) (drop i ys) ≡ (R x y × AllZip R (drop (i + 1) xs) (drop (i + 1) ys))
   AllZip-read R xs ys i x y hx hy ex ey = rw (drop_read xs i x hx ex, drop_read ys i y hy ey)
 
   pub length-AllZip : (R : A → B → Type 0) (xs : List A) (ys : List B) → AllZip R xs ys → length xs ≡ length ys
@@ -25,12 +30,14 @@ module _ {A B : Type 0} where
   length-AllZip R (x ∷ xs) (y ∷ ys) h = ap suc (length-AllZip R xs ys h.1)
 
 -- the least upper bound of a valid value and of valid items
-pub record IsBound {A : Type 0} (valid : A → Type 0) (below : A → A → Bool) (first : A) (xs : List A) (z : A) : Type 0 where
-  pub valid_first : valid first
-  pub valid_items : All valid xs
-  pub bound : IsLeastUpperBound valid below (first ∷ xs) z
+pub record IsBound {A : Type 0} (valid : A → Type 0) (below : A → A → Bool) (first : A) (xs : List A) (z : A) : Type 0
+  where
+    pub valid_first : valid first
+    pub valid_items : All valid xs
+    pub bound : IsLeastUpperBound valid below (first ∷ xs) z
 
-module _ {A : Type 0} {valid : A → Type 0} {alike : A → A → Type 0} {below : A → A → Bool} {joined : A → A → A} {top_of : A → A} {rank : A → ℕ}
+module _ {A : Type 0} {valid : A → Type 0} {alike : A → A → Type 0} {below : A → A → Bool} {joined : A → A → A}
+    {top_of : A → A} {rank : A → ℕ}
     (m : Laws valid alike below joined top_of rank) where
   abbrev IsUnder : A → A → Type 0
   IsUnder z x = below x z ≡ true
@@ -53,7 +60,8 @@ module _ {A : Type 0} {valid : A → Type 0} {alike : A → A → Type 0} {below
       let up = m.ordered_alike first z b.valid_first hz (All-head (IsUnder z) first xs b.bound.above) in
       m.alike_trans z first x hz b.valid_first hx (m.alike_sym first z b.valid_first hz up) h
 
-  raised : (z z' : A) → valid z → valid z' → below z z' ≡ true → (xs : List A) → All valid xs → All (IsUnder z) xs → All (IsUnder z') xs
+  raised : (z z' : A) → valid z → valid z' → below z z' ≡ true → (xs : List A) → All valid xs → All (IsUnder z) xs
+      → All (IsUnder z') xs
   raised z z' hz hz' up xs v h = λ k d lt. m.below_trans (get_or xs k d) z z' (v k d lt) hz hz' (h k d lt) up
 
   front : (P : A → Type 0) (xs : List A) (x : A) → All P (xs ++ x ∷ []) → All P xs × P x
@@ -62,13 +70,15 @@ module _ {A : Type 0} {valid : A → Type 0} {alike : A → A → Type 0} {below
       let r = front P ys x (All-tail P y (ys ++ x ∷ []) h) in
       (All-cons P y ys (All-head P y (ys ++ x ∷ []) h) r.0, r.1)
 
-  pub IsBound-more : (first x z : A) (xs : List A) → valid x → alike first x → IsBound valid below first xs z → IsBound valid below first (xs ++ x ∷ []) (joined z x)
+  pub IsBound-more : (first x z : A) (xs : List A) → valid x → alike first x → IsBound valid below first xs z
+      → IsBound valid below first (xs ++ x ∷ []) (joined z x)
   IsBound-more first x z xs hx h b =
       let hz = b.bound.valid_bound in
       let shape = bound_alike first x z xs hx h b in
       let hj = m.join_valid z x hz hx shape in
       let up = m.join_left z x hz hx shape in
-      let old = raised z (joined z x) hz hj up (first ∷ xs) (All-cons valid first xs b.valid_first b.valid_items) b.bound.above in
+      let old = raised z (joined z x) hz hj up (first ∷ xs) (All-cons valid first xs b.valid_first b.valid_items)
+      b.bound.above in
       record {
         valid_first = b.valid_first;
         valid_items = All-push valid xs x b.valid_items hx;

@@ -59,5 +59,6 @@ pub trait Meaning: Domain {
         ensures { IsTrue result ↔ holds self.now env.now c.now };
 
     // What a lesser value stands for, a greater one stands for too.
-    ghost grows: { (x y : Self) (e : Self.Env) (c : Self.Conc) → Self.valid x → Self.valid y → Self.below x y ≡ true → holds x e c → holds y e c };
+    ghost grows: { (x y : Self) (e : Self.Env) (c : Self.Conc) → Self.valid x → Self.valid y
+        → Self.below x y ≡ true → holds x e c → holds y e c };
 }

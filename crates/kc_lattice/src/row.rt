@@ -70,7 +70,8 @@ impl<V: Meaning> Meaning for Row<V> {
 
     ghost holds = { λ r e c. AllZip (λ x k. V.holds x e k) r c.items };
 
-    ghost grows = { λ r s e c hr hs h. rows_grows V.valid V.below (λ x k. V.holds x e k) (λ x y k. V.grows x y e k) r s c.items hr hs h };
+    ghost grows = { λ r s e c hr hs h.
+        rows_grows V.valid V.below (λ x k. V.holds x e k) (λ x y k. V.grows x y e k) r s c.items hr hs h };
 
     fn stands(&self, env: &Self::Env, c: &Self::Conc) -> bool {
         stands_each(&self.items, env, c)

@@ -1,7 +1,9 @@
-//! A list whose place in memory no contract sees.
+//! A list whose address no contract sees.
 
-ghost use Rattle.std.specs.Prelude.{◌≡◌, [], ◌∷◌, ◌++◌, ◌<◌, length, slice_get, slice_set, remove, ◌↔◌, IsTrue, MatchOption, OnOk, OnErr};
+ghost use Rattle.std.specs.Prelude.{◌≡◌, [], ◌∷◌, ◌++◌, ◌<◌, length, slice_get, slice_set, remove, ◌↔◌, IsTrue};
+ghost use Rattle.std.specs.Prelude.{MatchOption, OnOk, OnErr};
 ghost use Rattle.std.specs.Option.{option_copied};
+ghost use Rattle.kc_plain.specs.Appended.{Appended};
 
 use crate::NoMemory;
 use std::alloc::Global;
@@ -28,7 +30,7 @@ impl<T> Model for Items<T> {
 impl<T> Items<T> {
     /// The empty list. It takes no memory.
     pub fn new(alloc: Global) -> Items<T>
-        ensures { result ≡ [] }
+        ensures empty { result ≡ [] }
     {
         Items {
             items: Vec::new(alloc),
@@ -37,14 +39,14 @@ impl<T> Items<T> {
 
     /// The elements of `items`. It takes no memory.
     pub fn from_vec(items: Vec<T>) -> Items<T>
-        ensures { result ≡ items.items }
+        ensures items { result ≡ items.items }
     {
         Items { items }
     }
 
     /// The `Vec` of these elements. It takes no memory.
     pub fn into_vec(self) -> Vec<T>
-        ensures { result.items ≡ self }
+        ensures items { result.items ≡ self }
     {
         let Items { items } = self;
         items
@@ -52,61 +54,62 @@ impl<T> Items<T> {
 
     /// The elements in their order.
     pub fn as_slice(&self) -> &[T]
-        ensures { result.now ≡ self.now }
+        ensures items { result.now ≡ self.now }
     {
         self.items.as_slice()
     }
 
     /// How many elements there are.
     pub fn len(&self) -> usize
-        ensures { result ≡ length self.now }
+        ensures len { result ≡ length self.now }
     {
         self.items.len()
     }
 
     /// Whether there is no element.
     pub fn is_empty(&self) -> bool
-        ensures { IsTrue result ↔ (self.now ≡ []) }
+        ensures empty { IsTrue result ↔ (self.now ≡ []) }
     {
         self.items.is_empty()
     }
 
     /// The element at this index, counted from 0.
     pub fn get(&self, at: usize) -> Option<&T>
-        ensures { option_copied result ≡ slice_get self.now at }
+        ensures item { option_copied result ≡ slice_get self.now at }
     {
         self.items.get(at)
     }
 
     /// Takes the last element away.
     pub fn pop(&mut self) -> Option<T>
-        ensures { MatchOption result ((self.old ≡ []) × (self.new ≡ [])) (λ last. self.old ≡ self.new ++ last ∷ []) }
+        ensures last { MatchOption result ((self.old ≡ []) × (self.new ≡ []))
+            (λ last. self.old ≡ self.new ++ last ∷ []) }
     {
         self.items.pop()
     }
 }
 
 impl<T: Drop> Items<T> {
-    /// Puts `item` behind the last element.
+    /// Adds `item` after the last element; after `NoMemory` the list is as before.
     pub fn push(&mut self, item: T) -> Result<(), NoMemory>
-        ensures ok { OnOk result (self.new ≡ self.old ++ item ∷ []) }
-        ensures err { OnErr result (self.new ≡ self.old) }
+        ensures added { OnOk result (Appended self.old self.new (item ∷ [])) }
+        ensures unchanged { OnErr result (self.new ≡ self.old) }
     {
         self.items.push(item)?;
         Ok(())
     }
 
-    /// Puts `item` in the place of the element at this index.
+    /// Replaces the element at this index by `item`.
     pub fn set(&mut self, at: usize, item: T)
-        requires { at < length self.old }
-        ensures { self.new ≡ slice_set self.old at item }
+        requires within { at < length self.old }
+        ensures items { self.new ≡ slice_set self.old at item }
     {
         self.items[at] = item;
     }
 
-    /// Takes the element at this index away; those behind it move up.
+    /// Takes the element at this index away; those after it move up.
     pub fn remove(&mut self, at: usize) -> T
-        requires { at < length self.old }
+        requires within { at < length self.old }
         ensures item { slice_get self.old at ≡ Some result }
         ensures rest { self.new ≡ remove self.old at }
     {

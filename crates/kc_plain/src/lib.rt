@@ -1,4 +1,4 @@
-//! Lists and texts that contracts see as plain values, and the answer for want of memory.
+//! Lists and texts that contracts see as plain values, and the answer where memory runs out.
 #![tactic(auto)]
 
 mod items;

@@ -1,8 +1,8 @@
-//! Want of memory, the one answer whose cause no contract gives.
+//! Out of memory, the one answer whose cause no contract gives.
 
 use std::alloc::{AllocError, AllocFailed};
 
-/// There was no memory for what the call had to keep.
+/// Out of memory for what the call had to keep.
 #[derive(Clone, Copy, PartialEq, Eq, Debug)]
 pub struct NoMemory;
 

@@ -1,4 +1,4 @@
-//! A text whose place in memory no contract sees.
+//! A text whose address no contract sees.
 
 ghost use Rattle.std.specs.Prelude.{◌≡◌, string_bytes, IfOk};
 
@@ -24,14 +24,14 @@ impl Model for Text {
 impl Text {
     /// The bytes of `text`. It takes no memory.
     pub fn from_string(text: String) -> Text
-        ensures { result ≡ string_bytes text }
+        ensures bytes { result ≡ string_bytes text }
     {
         Text { text }
     }
 
     /// A copy of `text`.
     pub fn copied(alloc: Global, text: &str) -> Result<Text, NoMemory>
-        ensures { IfOk result (λ t. t ≡ text.now) }
+        ensures bytes { IfOk result (λ t. t ≡ text.now) }
     {
         let text = String::from_str(alloc, text)?;
         Ok(Text { text })
@@ -39,7 +39,7 @@ impl Text {
 
     /// The `String` of these bytes. It takes no memory.
     pub fn into_string(self) -> String
-        ensures { string_bytes result ≡ self }
+        ensures bytes { string_bytes result ≡ self }
     {
         let Text { text } = self;
         text
@@ -47,7 +47,7 @@ impl Text {
 
     /// The text.
     pub fn as_str(&self) -> &str
-        ensures { result.now ≡ self.now }
+        ensures bytes { result.now ≡ self.now }
     {
         self.text.as_str()
     }

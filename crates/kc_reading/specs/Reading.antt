@@ -1,6 +1,7 @@
 -- Readers of bytes and the grammars that they are exact for, this project's own.
--- A reader takes something from the front of a list and hands on what follows; or it refuses.
+-- A reader takes something from the beginning of a list and hands on what follows; or it refuses.
 use Rattle.std.specs.Prelude.{◌≡◌, ℕ, zero, suc, ◌<◌, Bool, true, false, List, [], ◌∷◌, ◌++◌, length, Result, Ok, Err}
+use Rattle.kc_rules.specs.Rules.{◌>>=◌}
 use Rattle.kc_words.specs.LittleEndian.{little_endian}
 
 -- each number is a byte
@@ -8,26 +9,24 @@ abbrev pub AreBytes : List ℕ → Type 0
 AreBytes [] = Unit {0}
 AreBytes (b ∷ bs) = (b < 256) × AreBytes bs
 
--- reads on behind what was read
-infixl 10 ◌>>=◌
-abbrev pub ◌>>=◌ : {A B E : Type 0} → Result A E → (A → Result B E) → Result B E
-(Ok x) >>= f = f x
-(Err e) >>= f = Err e
-
 -- The reader is exact for the grammar. A fault for which `short` is true says that bytes are missing.
-pub record Exact {A E : Type 0} (short : E → Bool) (read : List ℕ → Result (A × List ℕ) E) (Spells : List ℕ → A → Type 0) : Type 0 where
+pub record Exact {A E : Type 0} (short : E → Bool) (read : List ℕ → Result (A × List ℕ) E)
+    (Spells : List ℕ → A → Type 0) : Type 0 where
   -- what is taken is spelled so
-  pub takes : (bs rest : List ℕ) (x : A) → AreBytes bs → read bs ≡ Ok (x, rest) → (front : List ℕ) × Spells front x × (bs ≡ front ++ rest)
+  pub takes : (bs rest : List ℕ) (x : A) → AreBytes bs → read bs ≡ Ok (x, rest) → (front : List ℕ) × Spells front x
+      × (bs ≡ front ++ rest)
   -- what is spelled is taken, whatever follows
   pub again : (front rest : List ℕ) (x : A) → Spells front x → read (front ++ rest) ≡ Ok (x, rest)
   -- a fault other than missing bytes stays, whatever follows
   pub refuses : (bs more : List ℕ) (e : E) → AreBytes bs → read bs ≡ Err e → short e ≡ false → read (bs ++ more) ≡ Err e
   -- where bytes are missing, some bytes complete a spelling
-  pub completes : (bs : List ℕ) (e : E) → AreBytes bs → read bs ≡ Err e → short e ≡ true → (more : List ℕ) × (x : A) × (0 < length more) × Spells (bs ++ more) x
+  pub completes : (bs : List ℕ) (e : E) → AreBytes bs → read bs ≡ Err e → short e ≡ true → (more : List ℕ) × (x : A)
+      × (0 < length more) × Spells (bs ++ more) x
 
--- one grammar behind another, which may depend on what the first spells
+-- one grammar after another, which may depend on what the first spells
 abbrev pub Then : {A B : Type 0} → (List ℕ → A → Type 0) → (A → List ℕ → B → Type 0) → List ℕ → B → Type 0
-Then {A} First Second bs y = (x : A) × (front : List ℕ) × (back : List ℕ) × First front x × Second x back y × (bs ≡ front ++ back)
+Then {A} First Second bs y = (x : A) × (front : List ℕ) × (back : List ℕ) × First front x × Second x back y
+    × (bs ≡ front ++ back)
 
 -- reads a byte
 abbrev pub byte_at : {E : Type 0} → E → List ℕ → Result (ℕ × List ℕ) E
@@ -37,9 +36,10 @@ byte_at missing (b ∷ bs) = Ok (b, bs)
 -- reads so many bytes
 abbrev pub bytes_at : {E : Type 0} → E → ℕ → List ℕ → Result (List ℕ × List ℕ) E
 bytes_at missing zero bs = Ok ([], bs)
-bytes_at missing (suc n) bs = byte_at missing bs >>= λ b. bytes_at missing n b.1 >>= λ others. Ok (b.0 ∷ others.0, others.1)
+bytes_at missing (suc n) bs =
+    byte_at missing bs >>= λ b. bytes_at missing n b.1 >>= λ others. Ok (b.0 ∷ others.0, others.1)
 
--- a byte, and behind it what may depend on it
+-- a byte, and after it what may depend on it
 abbrev pub ByteThen : {A : Type 0} → (ℕ → List ℕ → A → Type 0) → List ℕ → A → Type 0
 ByteThen Second bs y = (b : ℕ) × (back : List ℕ) × (b < 256) × Second b back y × (bs ≡ b ∷ back)
 

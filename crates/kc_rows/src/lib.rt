@@ -1,9 +1,29 @@
-//! Tests that cross crates, as tables of cases: the whole program over files and a sink in memory.
+//! Tests that cross crates, as tables of cases.
 #![tactic(auto)]
 
 #[cfg(test)]
+mod bits;
+#[cfg(test)]
 mod check;
+#[cfg(test)]
+mod decode;
+#[cfg(test)]
+mod encode;
+#[cfg(test)]
+mod images;
+#[cfg(test)]
+mod insn;
 #[cfg(test)]
 mod plain;
 #[cfg(test)]
 mod runner;
+#[cfg(test)]
+mod samples;
+#[cfg(test)]
+mod table;
+#[cfg(test)]
+mod texts;
+#[cfg(test)]
+mod values;
+#[cfg(test)]
+mod words;

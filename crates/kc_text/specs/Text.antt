@@ -1,6 +1,7 @@
 -- The text of an instruction, this project's own choice among the assemblers' ways, with the operands in the order of
 -- Intel SDM vol. 2.
-use Rattle.std.specs.Prelude.{ℕ, zero, suc, ◌-◌, ◌==◌, Bool, true, false, if◌then◌else◌, List, [], ◌∷◌, ◌++◌, length, replicate, slice_index_or, Option, Some, None, ℤ, pos, negsuc, codes}
+use Rattle.std.specs.Prelude.{ℕ, zero, suc, ◌-◌, ◌==◌, Bool, true, false, if◌then◌else◌, List, [], ◌∷◌, ◌++◌, length}
+use Rattle.std.specs.Prelude.{replicate, slice_index_or, Option, Some, None, ℤ, pos, negsuc, codes}
 use Rattle.std.specs.Fmt.{digits}
 use Rattle.kc_words.specs.declared.width.Width.{Width}
 use Rattle.kc_words.specs.declared.width.Width.TheVariants.{Byte, Long, Quad}
@@ -17,7 +18,10 @@ use Rattle.kc_insn.specs.declared.insn.AluOp.TheVariants as alu
 use Rattle.kc_insn.specs.declared.insn.BitOp.{BitOp}
 use Rattle.kc_insn.specs.declared.insn.BitOp.TheVariants as bits
 use Rattle.kc_insn.specs.declared.insn.Insn.{Insn}
-use Rattle.kc_insn.specs.declared.insn.Insn.TheVariants.{Nop, Endbr64, Lfence, Ud2, Cld, Clac, Stac, Cli, Sti, Swapgs, Sysretq, Iretq, Rdmsr, Wrmsr, Pushfq, Popfq, Ret, ReadCr3, WriteCr3, ReadGs, WriteGs, Mov, Lea, Xchg, Push, Pop, Alu, Test, Bit, Jcc, Jmp, Call}
+use Rattle.kc_insn.specs.declared.insn.Insn.TheVariants.{Nop, Endbr64, Lfence, Ud2, Cld, Clac, Stac, Cli, Sti, Swapgs}
+use Rattle.kc_insn.specs.declared.insn.Insn.TheVariants.{Sysretq, Iretq, Rdmsr, Wrmsr, Pushfq, Popfq, Ret, ReadCr3}
+use Rattle.kc_insn.specs.declared.insn.Insn.TheVariants.{WriteCr3, ReadGs, WriteGs, Mov, Lea, Xchg, Push, Pop, Alu}
+use Rattle.kc_insn.specs.declared.insn.Insn.TheVariants.{Test, Bit, Jcc, Jmp, Call}
 
 -- ---- numbers
 
@@ -25,7 +29,7 @@ use Rattle.kc_insn.specs.declared.insn.Insn.TheVariants.{Nop, Endbr64, Lfence, U
 abbrev pub hex : ℕ → List ℕ
 hex n = codes "0x" ++ digits 16 false n
 
--- with `-` in front where the number is negative
+-- with `-` before it where the number is negative
 abbrev pub number : ℤ → List ℕ
 number (pos n) = hex n
 number (negsuc n) = codes "-" ++ hex (suc n)
@@ -90,7 +94,7 @@ parts_text base.Rip (Some i) = codes "rip" ++ codes "+" ++ index_text i
 parts_text (base.Reg r) None = register_text Quad r
 parts_text (base.Reg r) (Some i) = register_text Quad r ++ codes "+" ++ index_text i
 
--- a displacement behind a base or an index: 0 is left out
+-- a displacement after a base or an index: 0 is left out
 abbrev pub disp_text : ℤ → List ℕ
 disp_text (pos zero) = []
 disp_text (pos (suc n)) = codes "+" ++ hex (suc n)
@@ -155,7 +159,7 @@ bit_text bits.«Test» = codes "bt"
 bit_text bits.Set = codes "bts"
 bit_text bits.Reset = codes "btr"
 
--- the mnemonic and, behind one blank, the operands
+-- the mnemonic and, after one blank, the operands
 abbrev pub text_of : Insn → List ℕ
 text_of Nop = codes "nop"
 text_of Endbr64 = codes "endbr64"

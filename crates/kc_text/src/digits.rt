@@ -5,8 +5,8 @@ ghost use Rattle.std.specs.Fmt.{digits, digit_glyph};
 
 /// The lower-case digit of a number below 16.
 fn digit(n: u64) -> u8
-    requires { n < 16 }
-    ensures { result ≡ digit_glyph false n }
+    requires below { n < 16 }
+    ensures glyph { result ≡ digit_glyph false n }
 {
     const DIGITS: [u8; 16] = *b"0123456789abcdef";
     DIGITS[n as usize]

@@ -5,8 +5,7 @@ mod digits;
 mod line;
 mod names;
 mod operands;
-#[cfg(test)]
-mod tests;
 mod write;
 
+pub use line::LONGEST_TEXT;
 pub use write::write_insn;

@@ -1,18 +1,23 @@
 //! The line in which the text of an instruction is put together.
 
 ghost use Rattle.std.specs.Prelude.{◌≡◌, ◌+◌, ◌≤◌, ◌++◌, length};
+ghost use Rattle.kc_plain.specs.Appended.{Appended};
 ghost use Rattle.kc_text.specs.Text.{hex, number, target_text};
+ghost use Rattle.kc_text.specs.LineSteps.{HasRoom, GrowsAtMost};
 
 use crate::digits::write_digits;
 use arrayvec::ArrayVec;
 
-/// A line's bytes; no instruction has a longer text.
-pub type Line = ArrayVec<u8, 96>;
+/// No instruction has a longer text, in bytes.
+pub const LONGEST_TEXT: usize = 96;
+
+/// A line's bytes.
+pub type Line = ArrayVec<u8, LONGEST_TEXT>;
 
 /// Adds these bytes.
 fn put_bytes(line: &mut Line, bytes: &[u8])
-    requires room { length line.old.items + length bytes.now ≤ 96 }
-    ensures text { line.new.items ≡ line.old.items ++ bytes.now }
+    requires room { HasRoom line.old.items (length bytes.now) }
+    ensures text { Appended line.old.items line.new.items bytes.now }
     ensures len { length line.new.items ≡ length line.old.items + length bytes.now }
 {
     match line.try_extend_from_slice(bytes) {
@@ -23,8 +28,8 @@ fn put_bytes(line: &mut Line, bytes: &[u8])
 
 /// Adds this text.
 pub fn put(line: &mut Line, text: &str)
-    requires room { length line.old.items + length text.now ≤ 96 }
-    ensures text { line.new.items ≡ line.old.items ++ text.now }
+    requires room { HasRoom line.old.items (length text.now) }
+    ensures text { Appended line.old.items line.new.items text.now }
     ensures len { length line.new.items ≡ length line.old.items + length text.now }
 {
     put_bytes(line, text.as_bytes());
@@ -32,9 +37,9 @@ pub fn put(line: &mut Line, text: &str)
 
 /// Adds `0x` and the digits of `n` without leading zeros.
 pub fn put_hex(line: &mut Line, n: u64)
-    requires room { length line.old.items + 18 ≤ 96 }
-    ensures text { line.new.items ≡ line.old.items ++ hex n }
-    ensures len { length line.new.items ≤ length line.old.items + 18 }
+    requires room { HasRoom line.old.items 18 }
+    ensures text { Appended line.old.items line.new.items (hex n) }
+    ensures len { GrowsAtMost line.old.items line.new.items 18 }
 {
     let mut digits = [0; 16];
     let zeros = write_digits(n, &mut digits);
@@ -44,9 +49,9 @@ pub fn put_hex(line: &mut Line, n: u64)
 
 /// Adds a number, with its sign where it is negative.
 pub fn put_number(line: &mut Line, n: i64)
-    requires room { length line.old.items + 19 ≤ 96 }
-    ensures text { line.new.items ≡ line.old.items ++ number n }
-    ensures len { length line.new.items ≤ length line.old.items + 19 }
+    requires room { HasRoom line.old.items 19 }
+    ensures text { Appended line.old.items line.new.items (number n) }
+    ensures len { GrowsAtMost line.old.items line.new.items 19 }
 {
     if n < 0 {
         put(line, "-");
@@ -56,9 +61,9 @@ pub fn put_number(line: &mut Line, n: i64)
 
 /// Adds `0x` and the sixteen digits of an address.
 pub fn put_target(line: &mut Line, target: u64)
-    requires room { length line.old.items + 18 ≤ 96 }
-    ensures text { line.new.items ≡ line.old.items ++ target_text target }
-    ensures len { length line.new.items ≤ length line.old.items + 18 }
+    requires room { HasRoom line.old.items 18 }
+    ensures text { Appended line.old.items line.new.items (target_text target) }
+    ensures len { GrowsAtMost line.old.items line.new.items 18 }
 {
     let mut digits = [0; 16];
     write_digits(target, &mut digits);

@@ -1,7 +1,8 @@
 //! The names of registers, conditions, widths and operations.
 
 ghost use Rattle.std.specs.Prelude.{◌≡◌, ◌≤◌, ℕ, length};
-ghost use Rattle.kc_text.specs.Text.{by_width, register_text, size_word, scale_text, condition_text, alu_text, bit_text};
+ghost use Rattle.kc_text.specs.Text.{by_width, register_text, size_word, scale_text, condition_text, alu_text};
+ghost use Rattle.kc_text.specs.Text.{bit_text};
 
 use kc_insn::{AluOp, BitOp, Reg};
 use kc_words::Width;

@@ -1,7 +1,10 @@
 //! The text of operands.
 
 ghost use Rattle.std.specs.Prelude.{◌≡◌, ◌+◌, ◌≤◌, ◌++◌, length};
-ghost use Rattle.kc_text.specs.Text.{register_text, index_text, parts_text, disp_text, address_text, memory_text, place_text, source_text, sized_text, operands_text};
+ghost use Rattle.kc_plain.specs.Appended.{Appended};
+ghost use Rattle.kc_text.specs.Text.{register_text, index_text, parts_text, disp_text, address_text, memory_text};
+ghost use Rattle.kc_text.specs.Text.{place_text, source_text, sized_text, operands_text};
+ghost use Rattle.kc_text.specs.LineSteps.{HasRoom, GrowsAtMost};
 
 use crate::line::{Line, put, put_hex, put_number};
 use crate::names::{register_name, scale_name, size_word};
@@ -10,26 +13,26 @@ use kc_words::Width;
 
 /// Puts the register's name at this width.
 pub fn put_register(line: &mut Line, w: Width, r: Reg)
-    requires room { length line.old.items + 4 ≤ 96 }
-    ensures text { line.new.items ≡ line.old.items ++ register_text w r }
-    ensures len { length line.new.items ≤ length line.old.items + 4 }
+    requires room { HasRoom line.old.items 4 }
+    ensures text { Appended line.old.items line.new.items (register_text w r) }
+    ensures len { GrowsAtMost line.old.items line.new.items 4 }
 {
     put(line, register_name(w, r));
 }
 
 fn put_index(line: &mut Line, index: (Reg, u8))
-    requires room { length line.old.items + 6 ≤ 96 }
-    ensures text { line.new.items ≡ line.old.items ++ index_text index }
-    ensures len { length line.new.items ≤ length line.old.items + 6 }
+    requires room { HasRoom line.old.items 6 }
+    ensures text { Appended line.old.items line.new.items (index_text index) }
+    ensures len { GrowsAtMost line.old.items line.new.items 6 }
 {
     put_register(line, Width::Quad, index.0);
     put(line, scale_name(index.1));
 }
 
 fn put_parts(line: &mut Line, base: Base, index: Option<(Reg, u8)>)
-    requires room { length line.old.items + 11 ≤ 96 }
-    ensures text { line.new.items ≡ line.old.items ++ parts_text base index }
-    ensures len { length line.new.items ≤ length line.old.items + 11 }
+    requires room { HasRoom line.old.items 11 }
+    ensures text { Appended line.old.items line.new.items (parts_text base index) }
+    ensures len { GrowsAtMost line.old.items line.new.items 11 }
 {
     match base {
         Base::Absent => {}
@@ -44,11 +47,11 @@ fn put_parts(line: &mut Line, base: Base, index: Option<(Reg, u8)>)
     }
 }
 
-/// A displacement behind a base or an index.
+/// A displacement after a base or an index.
 fn put_disp(line: &mut Line, disp: i32)
-    requires room { length line.old.items + 19 ≤ 96 }
-    ensures text { line.new.items ≡ line.old.items ++ disp_text disp }
-    ensures len { length line.new.items ≤ length line.old.items + 19 }
+    requires room { HasRoom line.old.items 19 }
+    ensures text { Appended line.old.items line.new.items (disp_text disp) }
+    ensures len { GrowsAtMost line.old.items line.new.items 19 }
 {
     if disp > 0 {
         put(line, "+");
@@ -62,9 +65,9 @@ fn put_disp(line: &mut Line, disp: i32)
 }
 
 fn put_address(line: &mut Line, m: Mem)
-    requires room { length line.old.items + 30 ≤ 96 }
-    ensures text { line.new.items ≡ line.old.items ++ address_text m.base m.index m.disp }
-    ensures len { length line.new.items ≤ length line.old.items + 30 }
+    requires room { HasRoom line.old.items 30 }
+    ensures text { Appended line.old.items line.new.items (address_text m.base m.index m.disp) }
+    ensures len { GrowsAtMost line.old.items line.new.items 30 }
 {
     if m.base == Base::Absent && m.index.is_none() {
         put_number(line, i64::from(m.disp));
@@ -76,9 +79,9 @@ fn put_address(line: &mut Line, m: Mem)
 
 /// Puts the memory operand, without a size word.
 pub fn put_memory(line: &mut Line, m: Mem)
-    requires room { length line.old.items + 35 ≤ 96 }
-    ensures text { line.new.items ≡ line.old.items ++ memory_text m }
-    ensures len { length line.new.items ≤ length line.old.items + 35 }
+    requires room { HasRoom line.old.items 35 }
+    ensures text { Appended line.old.items line.new.items (memory_text m) }
+    ensures len { GrowsAtMost line.old.items line.new.items 35 }
 {
     if m.gs {
         put(line, "gs:");
@@ -90,9 +93,9 @@ pub fn put_memory(line: &mut Line, m: Mem)
 
 /// Puts the operand that is written, without a size word.
 pub fn put_place(line: &mut Line, w: Width, p: Place)
-    requires room { length line.old.items + 35 ≤ 96 }
-    ensures text { line.new.items ≡ line.old.items ++ place_text w p }
-    ensures len { length line.new.items ≤ length line.old.items + 35 }
+    requires room { HasRoom line.old.items 35 }
+    ensures text { Appended line.old.items line.new.items (place_text w p) }
+    ensures len { GrowsAtMost line.old.items line.new.items 35 }
 {
     match p {
         Place::Reg(r) => put_register(line, w, r),
@@ -102,9 +105,9 @@ pub fn put_place(line: &mut Line, w: Width, p: Place)
 
 /// Puts the operand that is read, without a size word.
 pub fn put_source(line: &mut Line, w: Width, s: Source)
-    requires room { length line.old.items + 35 ≤ 96 }
-    ensures text { line.new.items ≡ line.old.items ++ source_text w s }
-    ensures len { length line.new.items ≤ length line.old.items + 35 }
+    requires room { HasRoom line.old.items 35 }
+    ensures text { Appended line.old.items line.new.items (source_text w s) }
+    ensures len { GrowsAtMost line.old.items line.new.items 35 }
 {
     match s {
         Source::Reg(r) => put_register(line, w, r),
@@ -115,9 +118,9 @@ pub fn put_source(line: &mut Line, w: Width, s: Source)
 
 /// An operand that has no register beside it.
 pub fn put_sized(line: &mut Line, w: Width, p: Place)
-    requires room { length line.old.items + 41 ≤ 96 }
-    ensures text { line.new.items ≡ line.old.items ++ sized_text w p }
-    ensures len { length line.new.items ≤ length line.old.items + 41 }
+    requires room { HasRoom line.old.items 41 }
+    ensures text { Appended line.old.items line.new.items (sized_text w p) }
+    ensures len { GrowsAtMost line.old.items line.new.items 41 }
 {
     match p {
         Place::Reg(r) => put_register(line, w, r),
@@ -130,9 +133,9 @@ pub fn put_sized(line: &mut Line, w: Width, p: Place)
 
 /// Two operands, the one that is written first.
 pub fn put_operands(line: &mut Line, w: Width, p: Place, s: Source)
-    requires room { length line.old.items + 78 ≤ 96 }
-    ensures text { line.new.items ≡ line.old.items ++ operands_text w p s }
-    ensures len { length line.new.items ≤ length line.old.items + 78 }
+    requires room { HasRoom line.old.items 78 }
+    ensures text { Appended line.old.items line.new.items (operands_text w p s) }
+    ensures len { GrowsAtMost line.old.items line.new.items 78 }
 {
     match s {
         Source::Imm(z) => {

@@ -1,13 +1,14 @@
 //! The text of an instruction: its mnemonic and its operands.
 
 ghost use Rattle.std.specs.Prelude.{◌≡◌, ◌+◌, ◌≤◌, ◌++◌, OnOk, OnErr, length, codes};
-ghost use Rattle.std.specs.Io.KnownBytes.{Appends};
-ghost use Rattle.kc_io.specs.Sink.{Refuses};
+ghost use Rattle.kc_plain.specs.Appended.{Appended};
+ghost use Rattle.kc_io.specs.Sink.{SinkKept, Writes, Refuses};
 ghost use Rattle.kc_insn.specs.declared.insn.Insn.TheVariants.{ReadCr3, Lea, Xchg, Bit, Jcc};
 ghost use Rattle.kc_words.specs.declared.width.Width.TheVariants.{Quad};
 ghost use Rattle.kc_text.specs.Text.{text_of, register_text, operands_text, source_text, place_text, target_text};
+ghost use Rattle.kc_text.specs.LineSteps.{HasRoom, GrowsAtMost};
 
-use crate::line::{Line, put, put_number, put_target};
+use crate::line::{LONGEST_TEXT, Line, put, put_number, put_target};
 use crate::names::{alu_name, bit_name, condition_name};
 use crate::operands::{put_memory, put_operands, put_place, put_register, put_sized, put_source};
 use kc_insn::{BitOp, Insn, Mem, Place, Reg, Source};
@@ -16,17 +17,17 @@ use kc_words::Width;
 
 /// A word and a register of 64 bits.
 fn put_word_register(line: &mut Line, word: &str, r: Reg)
-    requires room { length line.old.items + length word.now + 4 ≤ 96 }
-    ensures text { line.new.items ≡ line.old.items ++ (word.now ++ register_text Quad r) }
-    ensures len { length line.new.items ≤ length line.old.items + length word.now + 4 }
+    requires room { HasRoom line.old.items (length word.now + 4) }
+    ensures text { Appended line.old.items line.new.items (word.now ++ register_text Quad r) }
+    ensures len { GrowsAtMost line.old.items line.new.items (length word.now + 4) }
 {
     put(line, word);
     put_register(line, Width::Quad, r);
 }
 
 fn put_read_cr3(line: &mut Line, r: Reg)
-    requires room { length line.old.items + 13 ≤ 96 }
-    ensures text { line.new.items ≡ line.old.items ++ text_of (ReadCr3 r) }
+    requires room { HasRoom line.old.items 13 }
+    ensures text { Appended line.old.items line.new.items (text_of (ReadCr3 r)) }
 {
     put_word_register(line, "mov ", r);
     put(line, ", cr3");
@@ -34,8 +35,8 @@ fn put_read_cr3(line: &mut Line, r: Reg)
 
 /// A mnemonic and two operands.
 fn put_pair(line: &mut Line, name: &str, w: Width, p: Place, s: Source)
-    requires room { length line.old.items + length name.now + 79 ≤ 96 }
-    ensures text { line.new.items ≡ line.old.items ++ (name.now ++ codes " " ++ operands_text w p s) }
+    requires room { HasRoom line.old.items (length name.now + 79) }
+    ensures text { Appended line.old.items line.new.items (name.now ++ codes " " ++ operands_text w p s) }
 {
     put(line, name);
     put(line, " ");
@@ -43,8 +44,8 @@ fn put_pair(line: &mut Line, name: &str, w: Width, p: Place, s: Source)
 }
 
 fn put_lea(line: &mut Line, w: Width, r: Reg, m: Mem)
-    requires room { length line.old.items + 45 ≤ 96 }
-    ensures text { line.new.items ≡ line.old.items ++ text_of (Lea w r m) }
+    requires room { HasRoom line.old.items 45 }
+    ensures text { Appended line.old.items line.new.items (text_of (Lea w r m)) }
 {
     put(line, "lea ");
     put_register(line, w, r);
@@ -53,8 +54,8 @@ fn put_lea(line: &mut Line, w: Width, r: Reg, m: Mem)
 }
 
 fn put_xchg(line: &mut Line, w: Width, p: Place, r: Reg)
-    requires room { length line.old.items + 46 ≤ 96 }
-    ensures text { line.new.items ≡ line.old.items ++ text_of (Xchg w p r) }
+    requires room { HasRoom line.old.items 46 }
+    ensures text { Appended line.old.items line.new.items (text_of (Xchg w p r)) }
 {
     put(line, "xchg ");
     put_place(line, w, p);
@@ -63,24 +64,24 @@ fn put_xchg(line: &mut Line, w: Width, p: Place, r: Reg)
 }
 
 fn put_push(line: &mut Line, s: Source)
-    requires room { length line.old.items + 40 ≤ 96 }
-    ensures text { line.new.items ≡ line.old.items ++ (codes "push " ++ source_text Quad s) }
+    requires room { HasRoom line.old.items 40 }
+    ensures text { Appended line.old.items line.new.items (codes "push " ++ source_text Quad s) }
 {
     put(line, "push ");
     put_source(line, Width::Quad, s);
 }
 
 fn put_pop(line: &mut Line, p: Place)
-    requires room { length line.old.items + 39 ≤ 96 }
-    ensures text { line.new.items ≡ line.old.items ++ (codes "pop " ++ place_text Quad p) }
+    requires room { HasRoom line.old.items 39 }
+    ensures text { Appended line.old.items line.new.items (codes "pop " ++ place_text Quad p) }
 {
     put(line, "pop ");
     put_place(line, Width::Quad, p);
 }
 
 fn put_bit(line: &mut Line, op: BitOp, w: Width, p: Place, n: u8)
-    requires room { length line.old.items + 66 ≤ 96 }
-    ensures text { line.new.items ≡ line.old.items ++ text_of (Bit op w p n) }
+    requires room { HasRoom line.old.items 66 }
+    ensures text { Appended line.old.items line.new.items (text_of (Bit op w p n)) }
 {
     put(line, bit_name(op));
     put(line, " ");
@@ -90,8 +91,8 @@ fn put_bit(line: &mut Line, op: BitOp, w: Width, p: Place, n: u8)
 }
 
 fn put_jcc(line: &mut Line, condition: u8, target: u64)
-    requires room { length line.old.items + 22 ≤ 96 }
-    ensures text { line.new.items ≡ line.old.items ++ text_of (Jcc condition target) }
+    requires room { HasRoom line.old.items 22 }
+    ensures text { Appended line.old.items line.new.items (text_of (Jcc condition target)) }
 {
     put(line, "j");
     put(line, condition_name(condition));
@@ -101,16 +102,16 @@ fn put_jcc(line: &mut Line, condition: u8, target: u64)
 
 /// A word and a target.
 fn put_jump(line: &mut Line, word: &str, target: u64)
-    requires room { length line.old.items + length word.now + 18 ≤ 96 }
-    ensures text { line.new.items ≡ line.old.items ++ (word.now ++ target_text target) }
+    requires room { HasRoom line.old.items (length word.now + 18) }
+    ensures text { Appended line.old.items line.new.items (word.now ++ target_text target) }
 {
     put(line, word);
     put_target(line, target);
 }
 
 fn put_insn(line: &mut Line, insn: Insn)
-    requires room { length line.old.items + 83 ≤ 96 }
-    ensures text { line.new.items ≡ line.old.items ++ text_of insn }
+    requires room { HasRoom line.old.items 83 }
+    ensures text { Appended line.old.items line.new.items (text_of insn) }
 {
     match insn {
         Insn::Nop => put(line, "nop"),
@@ -149,15 +150,15 @@ fn put_insn(line: &mut Line, insn: Insn)
 }
 
 /// Writes the text of the instruction without taking memory: the mnemonic in lower case, one blank,
-/// and the operands with `, ` between them. The whole text is one piece of `write_all`; after
-/// `Failed` a front of it was added. An instruction that isn't encodable has a text too, in which a
-/// register, a scale or a condition beyond its range is left out.
+/// and the operands with `, ` between them. The whole text is one piece of `write_all`: `Failed`
+/// comes where the sink refused a part of it, and then a prefix of it was added; after `Ok` nothing
+/// was refused. An instruction that isn't encodable has a text too, in which a register, a scale or
+/// a condition beyond its range is left out.
 pub fn write_insn<S: Sink>(out: &mut S, insn: &Insn) -> Result<(), Failed>
-    ensures all { OnOk result (Appends (S.written out.old) (S.written out.new) (text_of insn.now)) }
-    ensures part { OnErr result (Refuses (S.faults out.old) (S.faults out.new)
-        (S.written out.old) (S.written out.new) (S.refused out.new) (text_of insn.now)) }
-    ensures later { S.faults out.old ≤ S.faults out.new }
-    ensures plan { S.plan out.new ≡ S.plan out.old }
+    ensures all { OnOk result (Writes (S.state out.old) (S.state out.new) (text_of insn.now)) }
+    ensures part { OnErr result (Refuses (S.state out.old) (S.state out.new) (text_of insn.now)) }
+    ensures longest { length (text_of insn.now) ≤ LONGEST_TEXT }
+    ensures kept { SinkKept (S.state out.old) (S.state out.new) }
 {
     let mut line = Line::new();
     put_insn(&mut line, *insn);

@@ -1,6 +1,7 @@
 -- The first form of the three files, this project's own: a raw image with at least one byte of code, an empty
 -- configuration, and a letter for each instruction.
-use Rattle.std.specs.Prelude.{ℕ, ◌+◌, ◌-◌, ◌^◌, Bool, not, ◌||◌, List, [], ◌∷◌, length, take, drop, Option, Some, None, Result, Ok, Err, codes, position, zip, nat_le, nat_lt, if◌then◌else◌, ◌==◌}
+use Rattle.std.specs.Prelude.{ℕ, ◌+◌, ◌-◌, ◌^◌, Bool, not, ◌||◌, List, [], ◌∷◌, length, take, drop, Option, Some, None}
+use Rattle.std.specs.Prelude.{Result, Ok, Err, codes, position, zip, nat_le, nat_lt, if◌then◌else◌, ◌==◌}
 use Rattle.kc_words.specs.LittleEndian.{little_endian}
 use Rattle.kc_top.specs.declared.form.FormKind.{FormKind}
 use Rattle.kc_top.specs.declared.form.FormKind.TheVariants.{BadMagic, HeaderOut, SegmentOut}
@@ -14,7 +15,7 @@ pub record Code : Type 0 where
 abbrev pub magic_fault : List ℕ → Option ℕ
 magic_fault file = position (λ p. not (p.0 == p.1)) (zip file (codes "ENTRYRAW"))
 
--- the load address in 8 little-endian bytes behind the magic, and then the code, which ends below 2^64
+-- the load address in 8 little-endian bytes after the magic, and then the code, which ends below 2^64
 abbrev pub framed : List ℕ → Result Code (FormKind × ℕ)
 framed file =
     if nat_lt (length file) 17 then Err (HeaderOut, length file)
@@ -25,7 +26,7 @@ abbrev pub after_magic : List ℕ → Option ℕ → Result Code (FormKind × �
 after_magic file (Some at) = Err (BadMagic, at)
 after_magic file None = framed file
 
--- the image, or the first rule that fails with its place
+-- the image, or the first rule that fails with its offset
 abbrev pub first_image : List ℕ → Result Code (FormKind × ℕ)
 first_image file = after_magic file (magic_fault file)
 
@@ -48,6 +49,6 @@ abbrev pub after_letters : List ℕ → Option ℕ → Result (List ℕ) ℕ
 after_letters file (Some at) = Err at
 after_letters file None = Ok file
 
--- the letters, or the place of the first byte that is none
+-- the letters, or the offset of the first byte that is none
 abbrev pub first_letters : List ℕ → Result (List ℕ) ℕ
 first_letters file = after_letters file (position (λ b. not (is_letter b)) file)

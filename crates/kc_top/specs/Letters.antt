@@ -1,14 +1,16 @@
 -- What is asked of one letter an instruction, this project's own: C5, C2, C3, and for each instruction C6, C12, C13.
-use Rattle.std.specs.Prelude.{ℕ, ◌+◌, Bool, true, not, ◌&&◌, List, [], ◌∷◌, length, drop, Option, Some, None, Result, Ok, Err, option_map, if◌then◌else◌, ◌==◌}
+use Rattle.std.specs.Prelude.{ℕ, ◌+◌, Bool, true, not, ◌&&◌, List, [], ◌∷◌, length, drop, Option, Some, None, Result}
+use Rattle.std.specs.Prelude.{Ok, Err, option_map, if◌then◌else◌, ◌==◌}
 use Rattle.kc_insn.specs.declared.insn.Insn.{Insn}
 use Rattle.kc_top.specs.declared.letters.Refusal.{Refusal}
 use Rattle.kc_top.specs.declared.letters.Refusal.TheVariants.{Table, Node}
 use Rattle.kc_top.specs.FirstForm.{Code, user_letter, kernel_letter}
 use Rattle.kc_top.specs.Straight.{insn_at, length_of, is_return, is_swap, is_gs_load, path_of}
 
--- SWAPGS turns the letter into the other one
+-- SWAPGS changes the letter into the other one
 abbrev pub letter_after : Insn → ℕ → ℕ
-letter_after insn letter = if is_swap insn then (if letter == user_letter then kernel_letter else user_letter) else letter
+letter_after insn letter = if is_swap insn then (if letter == user_letter then kernel_letter else user_letter) else
+    letter
 
 -- C13: the next letter is the one after the instruction; nothing follows the return
 abbrev pub is_covered : Insn → ℕ → List ℕ → Bool
@@ -29,7 +31,8 @@ first_of None len later = option_map (λ f. (f.0, len + f.1)) later
 
 abbrev pub failing_from : ℕ → List ℕ → Option Insn → (Insn → Option (ℕ × ℕ)) → Option (ℕ × ℕ)
 failing_from letter letters None later = None
-failing_from letter letters (Some insn) later = first_of (condition_at insn letter letters) (length_of insn) (later insn)
+failing_from letter letters (Some insn) later =
+    first_of (condition_at insn letter letters) (length_of insn) (later insn)
 
 -- the first condition that fails along the bytes, one instruction for each letter, with its distance
 abbrev pub first_failing : List ℕ → List ℕ → Option (ℕ × ℕ)

@@ -1,10 +1,11 @@
 pub mod Status
 pub mod Words
-pub mod Request
+pub mod RequestSteps
 pub mod Lines
 pub mod FirstForm
-pub mod Form
+pub mod FormSteps
 pub mod Straight
 pub mod Letters
 pub mod Machine
 pub mod Output
+pub mod OutputSteps

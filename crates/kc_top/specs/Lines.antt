@@ -9,7 +9,9 @@ abbrev pub address_text : ℕ → List ℕ
 address_text a = codes "0x" ++ replicate (16 - length (digits 16 false a)) 48 ++ digits 16 false a
 
 abbrev pub usage_line : List ℕ
-usage_line = codes "usage: entrycert check IMAGE CONFIG CERT, find IMAGE CONFIG, explain IMAGE CONFIG [CERT], replay IMAGE CONFIG TRACE, gen SEED SIZE\n"
+usage_line =
+    codes
+    "usage: entrycert check IMAGE CONFIG CERT, find IMAGE CONFIG, explain IMAGE CONFIG [CERT], replay IMAGE CONFIG TRACE, gen SEED SIZE\n"
 
 abbrev pub read_fault_line : List ℕ → List ℕ
 read_fault_line name = codes "read fault " ++ name ++ codes "\n"
@@ -33,11 +35,13 @@ abbrev pub bad_cert_line : ℕ → List ℕ
 bad_cert_line at = codes "bad certificate 6 Range at " ++ decimal at ++ codes "\n"
 
 abbrev pub accepted_line : ℕ → ℕ → List ℕ
-accepted_line contexts nodes = codes "accepted contexts=" ++ decimal contexts ++ codes " nodes=" ++ decimal nodes ++ codes "\n"
+accepted_line contexts nodes =
+    codes "accepted contexts=" ++ decimal contexts ++ codes " nodes=" ++ decimal nodes ++ codes "\n"
 
 abbrev pub refused_table_line : ℕ → List ℕ
 refused_table_line condition = codes "refused C" ++ decimal condition ++ codes "\n"
 
 abbrev pub refused_node_line : ℕ → ℕ → ℕ → List ℕ
 refused_node_line condition context address =
-    codes "refused C" ++ decimal condition ++ codes " context " ++ decimal context ++ codes " at " ++ address_text address ++ codes "\n"
+    codes "refused C" ++ decimal condition ++ codes " context " ++ decimal context ++ codes " at " ++ address_text
+    address ++ codes "\n"

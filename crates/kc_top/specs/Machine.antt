@@ -1,6 +1,7 @@
 -- The machine of straight code without events: Intel SDM vol. 2, "SWAPGS", "SYSRET" and "MOV"; the rest is this
 -- project's own.
-use Rattle.std.specs.Prelude.{◌≡◌, ℕ, zero, suc, ◌+◌, ◌-◌, Bool, true, false, List, [], ◌∷◌, drop, Option, Some, None, if◌then◌else◌}
+use Rattle.std.specs.Prelude.{◌≡◌, ℕ, zero, suc, ◌+◌, ◌-◌, Bool, true, false, List, [], ◌∷◌, drop, Option, Some, None}
+use Rattle.std.specs.Prelude.{if◌then◌else◌}
 use Rattle.std.specs.List.{AllByRecursion}
 use Rattle.kc_insn.specs.declared.insn.Insn.{Insn}
 use Rattle.kc_top.specs.FirstForm.{Code}
@@ -31,7 +32,7 @@ effect insn s = record {
   returned = is_return insn;
 }
 
--- a machine that has returned, or that stands at no instruction, stays as it is
+-- a machine that has returned, or that is at no instruction, stays as it is
 abbrev pub step_by : Option Insn → State → State
 step_by None s = s
 step_by (Some insn) s = if s.returned then s else effect insn s

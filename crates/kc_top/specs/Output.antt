@@ -1,18 +1,17 @@
 -- What the program answers and writes: one definition for all that it does, this project's own.
 use Rattle.std.specs.Prelude.{◌≡◌, ◌≢◌, ℕ, ◌≤◌, ◌⊎◌, List, length, Option, Some, None, Result, Ok, Err, IsSome, ◌+◌, ⊤}
-use Rattle.std.specs.Io.KnownBytes.{Appends}
 use Rattle.kc_io.specs.Files.{Held, IsWhole, IsLonger}
-use Rattle.kc_io.specs.Sink.{Refuses}
-use Rattle.kc_io.specs.declared.read.ReadEnd.{ReadEnd}
-use Rattle.kc_io.specs.declared.read.ReadEnd.TheVariants.{Fault, TooLong, NoMemory as OutOfMemory}
+use Rattle.kc_io.specs.Sink.{SinkState, Writes, Refuses}
 use Rattle.kc_top.specs.declared.status.Status.{Status}
-use Rattle.kc_top.specs.declared.status.Status.TheVariants.{Done, Refused, Usage, BadImage, BadConfig, BadCert, ReadFault, WriteFault, TooLarge}
+use Rattle.kc_top.specs.declared.status.Status.TheVariants.{Done, Refused, Usage, BadImage, BadConfig, BadCert}
+use Rattle.kc_top.specs.declared.status.Status.TheVariants.{ReadFault, WriteFault, TooLarge}
 use Rattle.kc_top.specs.declared.form.FormKind.{FormKind}
 use Rattle.kc_top.specs.declared.letters.Refusal.{Refusal}
 use Rattle.kc_top.specs.declared.letters.Refusal.TheVariants.{Table, Node}
 use Rattle.kc_top.specs.declared.outcome.Outcome.{Outcome}
 use Rattle.kc_top.specs.Words.{Request, Check, request_of}
-use Rattle.kc_top.specs.Lines.{usage_line, read_fault_line, too_large_line, bad_image_line, bad_config_line, bad_cert_line, accepted_line, refused_table_line, refused_node_line}
+use Rattle.kc_top.specs.Lines.{usage_line, read_fault_line, too_large_line, bad_image_line, bad_config_line}
+use Rattle.kc_top.specs.Lines.{bad_cert_line, accepted_line, refused_table_line, refused_node_line}
 use Rattle.kc_top.specs.FirstForm.{Code, first_image, first_config, first_letters}
 use Rattle.kc_top.specs.Letters.{judged}
 use Rattle.kc_top.specs.Machine.{StaysSafe}
@@ -51,13 +50,21 @@ verdict (Ok count) = record { status = Done; text = accepted_line 1 count }
 verdict (Err (Table condition)) = record { status = Refused; text = refused_table_line condition }
 verdict (Err (Node condition address)) = record { status = Refused; text = refused_node_line condition 0 address }
 
+-- the named file was read whole, within the limit, and this outcome follows of its bytes
+pub record IsRead (told : Option Held) (limit : ℕ) (name : List ℕ) (next : List ℕ → Outcome → Type 0) (o : Outcome)
+    : Type 0 where
+  pub file : List ℕ
+  pub whole : IsWhole told name file
+  pub within : length file ≤ limit
+  pub due : next file o
+
 -- What comes of reading the named file, where `rose` says that the count of a name's faults rose: a read failed, or the
 -- file is larger than its limit, or what follows comes of its bytes.
 abbrev pub OnFile : Option Held → (List ℕ → Type 0) → ℕ → List ℕ → (List ℕ → Outcome → Type 0) → Outcome → Type 0
 OnFile told rose limit name next o =
     (rose name × (o ≡ read_fault name))
     ⊎ ((IsLonger told name limit × (o ≡ too_large name))
-    ⊎ ((bytes : List ℕ) × IsWhole told name bytes × (length bytes ≤ limit) × next bytes o))
+    ⊎ IsRead told limit name next o)
 
 -- what comes of reading a form: its fault, or what follows
 abbrev pub OnForm : {A E : Type 0} → (E → Outcome) → Result A E → (A → Outcome → Type 0) → Outcome → Type 0
@@ -87,21 +94,24 @@ IsRequestDue told rose (Some (Check image config cert)) o = IsCheckDue told rose
 abbrev pub IsDue : Option Held → (List ℕ → Type 0) → List (List ℕ) → Outcome → Type 0
 IsDue told rose words = IsRequestDue told rose (request_of words)
 
--- How the status and the sink tell the outcome: the status and all of the text, or that the sink refused a part of it.
-pub record Tells (o : Outcome) (status : Status) (before now : ℕ) (old new : Option (List ℕ)) (refused : ℕ) : Type 0 where
-  pub all : status ≢ WriteFault → (status ≡ o.status) × Appends old new o.text
-  pub part : status ≡ WriteFault → Refuses before now old new refused o.text
+-- how the status and the sink report the outcome: the outcome's status with all of its text, none of which was refused,
+-- or that the sink refused a part of the text
+pub record Reports (o : Outcome) (status : Status) (before after : SinkState) : Type 0 where
+  pub all : status ≢ WriteFault → (status ≡ o.status) × Writes before after o.text
+  pub part : status ≡ WriteFault → Refuses before after o.text
 
--- what comes of a file whose reading ended so
-abbrev pub IsUnread : List ℕ → ReadEnd → Outcome → Type 0
-IsUnread name Fault o = o ≡ read_fault name
-IsUnread name TooLong o = o ≡ too_large name
-IsUnread name OutOfMemory o = ⊥
+-- the named file holds an image whose code stays safe
+pub record HoldsSafeImage (held : Held) (image : List ℕ) : Type 0 where
+  pub file : List ℕ
+  pub code : Code
+  pub is_held : held image ≡ Some file
+  pub is_image : first_image file ≡ Ok code
+  pub safe : StaysSafe code
 
--- where the files tell what they hold, the named image's code stays safe
+-- the same, where the files report what they hold
 abbrev pub IsSafeImage : Option Held → List ℕ → Type 0
 IsSafeImage None image = ⊤
-IsSafeImage (Some held) image = (file : List ℕ) × (held image ≡ Some file) × (code : Code) × (first_image file ≡ Ok code) × StaysSafe code
+IsSafeImage (Some held) image = HoldsSafeImage held image
 
 -- the same of the image of a request
 abbrev pub AcceptsSafe : Option Held → Option Request → Type 0
@@ -112,10 +122,15 @@ AcceptsSafe told (Some (Check image config cert)) = IsSafeImage told image
 abbrev pub HoldsFiles : Option Held → Option Request → Type 0
 HoldsFiles None request = ⊥
 HoldsFiles (Some held) None = ⊤
-HoldsFiles (Some held) (Some (Check image config cert)) = IsSome (held image) × IsSome (held config) × IsSome (held cert)
+HoldsFiles (Some held) (Some (Check image config cert)) =
+    IsSome (held image) × IsSome (held config) × IsSome (held cert)
 
--- what is due where no read fails has room behind the bytes that are written already
-abbrev pub HasRoom : Option Held → List (List ℕ) → Option (List ℕ) → Option ℕ → Type 0
-HasRoom told words (Some written) (Some room) = (o : Outcome) → IsDue told (λ _. ⊥) words o → length written + length o.text ≤ room
-HasRoom told words None room = ⊥
-HasRoom told words (Some written) None = ⊤
+-- a text has room after the bytes that are written already
+abbrev pub HasRoomFor : Option (List ℕ) → Option ℕ → List ℕ → Type 0
+HasRoomFor (Some written) (Some room) text = length written + length text ≤ room
+HasRoomFor None room text = ⊥
+HasRoomFor (Some written) None text = ⊤
+
+-- what is due where no read fails has room in the sink
+abbrev pub HasRoom : Option Held → List (List ℕ) → SinkState → Type 0
+HasRoom told words sink = (o : Outcome) → IsDue told (λ _. ⊥) words o → HasRoomFor sink.written sink.plan.room o.text

@@ -1,7 +1,8 @@
 -- The status that the program ends with, this project's own.
 use Rattle.std.specs.Prelude.{ℕ}
 use Rattle.kc_top.specs.declared.status.Status.{Status}
-use Rattle.kc_top.specs.declared.status.Status.TheVariants.{Done, Refused, Usage, BadImage, BadConfig, BadCert, BadTrace, ReadFault, WriteFault, NoMemory, TooLarge}
+use Rattle.kc_top.specs.declared.status.Status.TheVariants.{Done, Refused, Usage, BadImage, BadConfig, BadCert}
+use Rattle.kc_top.specs.declared.status.Status.TheVariants.{BadTrace, ReadFault, WriteFault, NoMemory, TooLarge}
 
 -- the number of each status
 abbrev pub code_of : Status → ℕ

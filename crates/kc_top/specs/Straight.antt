@@ -1,5 +1,6 @@
 -- Straight code of four instructions: Intel SDM vol. 2, "NOP", "SWAPGS", "SYSRET" and "MOV".
-use Rattle.std.specs.Prelude.{ℕ, zero, suc, ◌+◌, Bool, true, false, ◌&&◌, List, [], ◌∷◌, length, take, drop, Option, Some, None, Result, Ok, Err, nat_eq, nat_le, if◌then◌else◌}
+use Rattle.std.specs.Prelude.{ℕ, zero, suc, ◌+◌, Bool, true, false, ◌&&◌, List, [], ◌∷◌, length, take, drop, Option}
+use Rattle.std.specs.Prelude.{Some, None, Result, Ok, Err, nat_eq, nat_le, if◌then◌else◌}
 use Rattle.std.specs.Int.{cast_signed, w32}
 use Rattle.std.specs.List.{starts_with}
 use Rattle.kc_words.specs.LittleEndian.{little_endian}
@@ -44,7 +45,7 @@ abbrev pub is_gs_load : Insn → Bool
 is_gs_load (Mov _ _ _) = true
 is_gs_load _ = false
 
--- one instruction more before those of the rest, or its bytes more before the place without one
+-- one instruction more before those of the rest, or its bytes more before the offset without one
 abbrev pub counted : Insn → Result ℕ ℕ → Result ℕ ℕ
 counted insn (Ok count) = Ok (1 + count)
 counted insn (Err place) = Err (length_of insn + place)
@@ -53,7 +54,8 @@ abbrev pub path_from : Option Insn → (Insn → Result ℕ ℕ) → Result ℕ 
 path_from None rest = Err 0
 path_from (Some insn) rest = if is_return insn then Ok 1 else counted insn (rest insn)
 
--- how many instructions the bytes are up to a first SYSRETQ, that one included, or the first place where they are none;
+-- how many instructions the bytes are up to a first SYSRETQ, that one included, or the first offset where they are
+-- none;
 -- n is a bound on their number
 abbrev pub path_within : ℕ → List ℕ → Result ℕ ℕ
 path_within zero bytes = Err 0

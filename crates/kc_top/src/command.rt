@@ -1,14 +1,14 @@
 //! All that the program does.
 
-ghost use Rattle.std.specs.Prelude.{Some, ◌≡◌, ◌≢◌, ◌≤◌, ℕ, List, IfOk, None};
-ghost use Rattle.std.specs.Io.KnownBytes.{Appends, Keeps};
-ghost use Rattle.kc_io.specs.Count.{Rose};
-ghost use Rattle.kc_io.specs.Files.{Held};
+ghost use Rattle.std.specs.Prelude.{Some, ◌≡◌, ◌≢◌, ℕ, List, IfOk, None};
+ghost use Rattle.kc_io.specs.Files.{Held, FilesKept, HasFailed};
+ghost use Rattle.kc_io.specs.Sink.{SinkKept, Writes, Refuses};
 ghost use Rattle.kc_top.specs.declared.outcome.Outcome.{Outcome as OutcomeValue};
-ghost use Rattle.kc_io.specs.Sink.{Refuses};
 ghost use Rattle.kc_top.specs.Words.{request_of};
-ghost use Rattle.kc_top.specs.Form.{code_of};
-ghost use Rattle.kc_top.specs.Output.{IsCertDue, IsConfigDue, IsCheckDue, IsDue, IsUnread, Tells, AcceptsSafe, HoldsFiles};
+ghost use Rattle.kc_top.specs.FormSteps.{code_of};
+ghost use Rattle.kc_top.specs.Output.{IsCertDue, IsConfigDue, IsCheckDue, IsDue, Reports, AcceptsSafe};
+ghost use Rattle.kc_top.specs.OutputSteps.{IsUnread};
+ghost use Rattle.kc_top.specs.Output.{HoldsFiles};
 
 use crate::form::RawCode;
 use crate::letters::{judge, letter_fault};
@@ -46,10 +46,9 @@ fn judge_cert<F: Files>(
     cert: &str,
     code: &RawCode<'_>,
 ) -> Result<Outcome, NoMemory>
-    ensures due { IfOk result (IsCertDue (F.held files.old) (λ n. Rose (F.faults files.old n) (F.faults files.new n)) cert.now (code_of code.now)) }
-    ensures later { (n : List ℕ) → F.faults files.old n ≤ F.faults files.new n }
-    ensures held { F.held files.new ≡ F.held files.old }
-    ensures failing { F.failing files.new ≡ F.failing files.old }
+    ensures due { IfOk result (IsCertDue (F.state files.old).held
+        (HasFailed (F.state files.old) (F.state files.new)) cert.now (code_of code.now)) }
+    ensures kept { FilesKept (F.state files.old) (F.state files.new) }
 {
     let letters = match read_all(alloc, files, cert, CERT_LIMIT) {
         Ok(letters) => letters,
@@ -69,10 +68,9 @@ fn judge_config<F: Files>(
     cert: &str,
     code: &RawCode<'_>,
 ) -> Result<Outcome, NoMemory>
-    ensures due { IfOk result (IsConfigDue (F.held files.old) (λ n. Rose (F.faults files.old n) (F.faults files.new n)) config.now cert.now (code_of code.now)) }
-    ensures later { (n : List ℕ) → F.faults files.old n ≤ F.faults files.new n }
-    ensures held { F.held files.new ≡ F.held files.old }
-    ensures failing { F.failing files.new ≡ F.failing files.old }
+    ensures due { IfOk result (IsConfigDue (F.state files.old).held
+        (HasFailed (F.state files.old) (F.state files.new)) config.now cert.now (code_of code.now)) }
+    ensures kept { FilesKept (F.state files.old) (F.state files.new) }
 {
     let text = match read_all(alloc, files, config, CONFIG_LIMIT) {
         Ok(text) => text,
@@ -92,10 +90,9 @@ fn judge_image<F: Files>(
     config: &str,
     cert: &str,
 ) -> Result<Outcome, NoMemory>
-    ensures due { IfOk result (IsCheckDue (F.held files.old) (λ n. Rose (F.faults files.old n) (F.faults files.new n)) image.now config.now cert.now) }
-    ensures later { (n : List ℕ) → F.faults files.old n ≤ F.faults files.new n }
-    ensures held { F.held files.new ≡ F.held files.old }
-    ensures failing { F.failing files.new ≡ F.failing files.old }
+    ensures due { IfOk result (IsCheckDue (F.state files.old).held
+        (HasFailed (F.state files.old) (F.state files.new)) image.now config.now cert.now) }
+    ensures kept { FilesKept (F.state files.old) (F.state files.new) }
 {
     let file = match read_all(alloc, files, image, IMAGE_LIMIT) {
         Ok(file) => file,
@@ -109,11 +106,10 @@ fn judge_image<F: Files>(
 
 /// Writes a text whole, and answers the status that goes with it or `WriteFault`.
 fn say<S: Sink>(out: &mut S, status: Status, text: &str) -> Status
-    ensures all { result ≢ Status.WriteFault → (result ≡ status) × Appends (S.written out.old) (S.written out.new) text.now }
-    ensures part { result ≡ Status.WriteFault → status ≢ Status.WriteFault → Refuses (S.faults out.old) (S.faults out.new)
-        (S.written out.old) (S.written out.new) (S.refused out.new) text.now }
-    ensures later { S.faults out.old ≤ S.faults out.new }
-    ensures plan { S.plan out.new ≡ S.plan out.old }
+    ensures all { result ≢ Status.WriteFault → (result ≡ status) × Writes (S.state out.old) (S.state out.new) text.now }
+    ensures part { result ≡ Status.WriteFault → status ≢ Status.WriteFault →
+        Refuses (S.state out.old) (S.state out.new) text.now }
+    ensures kept { SinkKept (S.state out.old) (S.state out.new) }
 {
     match write_all(out, text.as_bytes()) {
         Ok(()) => status,
@@ -124,26 +120,22 @@ fn say<S: Sink>(out: &mut S, status: Status, text: &str) -> Status
 /// Runs the command that the words name.
 ///
 /// `check IMAGE CONFIG CERT` reads the three files in this order, decides, and writes one line. The
-/// answer is the line's status; `WriteFault` where the sink refused a part of the line, and nothing
-/// is written after that; `NoMemory` where there was no memory, and then nothing was written.
+/// answer is the line's status, and then the sink refused nothing; `WriteFault` where the sink
+/// refused a part of the line; `NoMemory` where memory ran out, and then nothing was written.
 pub fn run<F: Files, S: Sink>(alloc: Global, words: &Words, files: &mut F, out: &mut S) -> Status
     // The status and the line are those of the outcome that is due.
-    ensures told { result ≢ Status.NoMemory → ((o : Outcome)
-        × IsDue (F.held files.old) (λ n. Rose (F.faults files.old n) (F.faults files.new n)) words.now o
-        × Tells o result (S.faults out.old) (S.faults out.new) (S.written out.old) (S.written out.new) (S.refused out.new)) }
+    ensures outcome { result ≢ Status.NoMemory → ((o : Outcome)
+        × IsDue (F.state files.old).held (HasFailed (F.state files.old) (F.state files.new)) words.now o
+        × Reports o result (S.state out.old) (S.state out.new)) }
 
     // Words that are no command take no memory.
     ensures usage { request_of words.now ≡ None → result ≢ Status.NoMemory }
-    ensures memory { result ≡ Status.NoMemory → Keeps (S.written out.old) (S.written out.new) }
+    ensures memory { result ≡ Status.NoMemory → S.state out.new ≡ S.state out.old }
 
     // Accepted code stays safe.
-    ensures safe { result ≡ Status.Done → AcceptsSafe (F.held files.old) (request_of words.now) }
-
-    ensures files_later { (n : List ℕ) → F.faults files.old n ≤ F.faults files.new n }
-    ensures files_held { F.held files.new ≡ F.held files.old }
-    ensures files_failing { F.failing files.new ≡ F.failing files.old }
-    ensures out_later { S.faults out.old ≤ S.faults out.new }
-    ensures out_plan { S.plan out.new ≡ S.plan out.old }
+    ensures safe { result ≡ Status.Done → AcceptsSafe (F.state files.old).held (request_of words.now) }
+    ensures files_kept { FilesKept (F.state files.old) (F.state files.new) }
+    ensures out_kept { SinkKept (S.state out.old) (S.state out.new) }
 {
     match request_of(words.as_slice()) {
         None => say(out, Status::Usage, lines::USAGE),
@@ -160,12 +152,12 @@ pub fn run<F: Files, S: Sink>(alloc: Global, words: &Words, files: &mut F, out: 
     }
 }
 
-/// Over files that tell what they hold, no two outcomes are due where no read fails, and one is due
+/// Over files that report what they hold, no two outcomes are due where no read fails, and one is due
 /// where they hold each file of the words. So the statuses exclude each other, and each comes exactly
 /// where its case of the definition holds.
 pub fn one_outcome()
-    ensures one { (held : Held) (words : List (List ℕ)) (o p : OutcomeValue) →
+    ensures at_most_one { (held : Held) (words : List (List ℕ)) (o p : OutcomeValue) →
         IsDue (Some held) (λ _. ⊥) words o → IsDue (Some held) (λ _. ⊥) words p → o ≡ p }
-    ensures some { (held : Held) (words : List (List ℕ)) →
+    ensures at_least_one { (held : Held) (words : List (List ℕ)) →
         HoldsFiles (Some held) (request_of words) → (o : OutcomeValue) × IsDue (Some held) (λ _. ⊥) words o }
 {}

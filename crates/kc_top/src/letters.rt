@@ -3,7 +3,7 @@
 ghost use Rattle.std.specs.Prelude.{◌≡◌, ◌≤◌, IfSome, length, position, not};
 ghost use Rattle.kc_top.specs.FirstForm.{is_letter};
 ghost use Rattle.kc_top.specs.Letters.{letter_after, is_covered, condition_at, first_failing, is_first_user, judged};
-ghost use Rattle.kc_top.specs.Form.{code_of};
+ghost use Rattle.kc_top.specs.FormSteps.{code_of};
 
 use crate::form::RawCode;
 use crate::straight::{count_path, insn_from, is_return, length_of};
@@ -49,7 +49,7 @@ pub fn letter_fault(file: &[u8]) -> Option<usize>
     file.iter().position(|b| *b != USER && *b != KERNEL)
 }
 
-/// The letter behind the instruction: SWAPGS turns it into the other one.
+/// The letter after the instruction: SWAPGS changes it into the other one.
 fn letter_after(insn: &Insn, letter: u8) -> u8
     ensures { result ≡ letter_after insn.now letter }
 {
@@ -60,7 +60,7 @@ fn letter_after(insn: &Insn, letter: u8) -> u8
     }
 }
 
-/// Whether the next letter is the one behind the instruction; nothing follows the return.
+/// Whether the next letter is the one after the instruction; nothing follows the return.
 fn is_covered(insn: &Insn, letter: u8, letters: &[u8]) -> bool
     ensures { result ≡ is_covered insn.now letter letters.now }
 {

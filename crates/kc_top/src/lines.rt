@@ -1,7 +1,8 @@
 //! The lines that the program prints.
 
 ghost use Rattle.std.specs.Prelude.{◌≡◌, IfOk, string_bytes};
-ghost use Rattle.kc_top.specs.Lines.{kind_text, address_text, bad_image_line, accepted_line, refused_table_line, refused_node_line};
+ghost use Rattle.kc_top.specs.Lines.{kind_text, address_text, bad_image_line, accepted_line, refused_table_line};
+ghost use Rattle.kc_top.specs.Lines.{refused_node_line};
 ghost use Rattle.kc_top.specs.Output.{read_fault, too_large, bad_image, bad_config, bad_cert, verdict};
 
 use crate::form::{FormFault, FormKind};

@@ -2,17 +2,17 @@
 
 ghost use Rattle.std.specs.Prelude.{◌≡◌, ◌↔◌, IsTrue, []};
 ghost use Rattle.kc_top.specs.FirstForm.{magic_fault, first_image};
-ghost use Rattle.kc_top.specs.Form.{IsImage};
+ghost use Rattle.kc_top.specs.FormSteps.{IsImage};
 
 use crate::form::{FormFault, FormKind, RawCode};
 use kc_words::le64;
 
 const MAGIC: [u8; 8] = *b"ENTRYRAW";
 
-/// Where the load address stands.
+/// The offset of the load address.
 const LOAD: usize = 8;
 
-/// Where the code begins.
+/// The offset of the code.
 const CODE: usize = 16;
 
 /// The first byte that is there and differs from the magic.

@@ -3,7 +3,7 @@
 ghost use Rattle.std.specs.Prelude.{◌≡◌, map, string_bytes, option_map};
 ghost use Rattle.std.specs.List.{list_any};
 ghost use Rattle.kc_top.specs.Words.{is_faulty, check_of, mode_of, request_of};
-ghost use Rattle.kc_top.specs.Request.{names_of};
+ghost use Rattle.kc_top.specs.RequestSteps.{names_of};
 
 /// The files of `check IMAGE CONFIG CERT`, by name.
 #[derive(Clone, Copy)]

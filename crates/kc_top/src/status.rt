@@ -24,7 +24,7 @@ pub enum Status {
     ReadFault,
     /// The output couldn't be written.
     WriteFault,
-    /// There was no memory.
+    /// Memory ran out.
     NoMemory,
     /// A file is larger than its limit.
     TooLarge,
@@ -33,7 +33,7 @@ pub enum Status {
 impl Status {
     /// The exit code: 0 to 10, in the order of the variants.
     pub fn code(self) -> u8
-        ensures { result ≡ code_of self }
+        ensures code { result ≡ code_of self }
     {
         self as u8
     }

@@ -15,7 +15,7 @@ const SYSRETQ: [u8; 3] = [0x48, 0x0F, 0x07];
 /// MOV RAX, GS:[disp32], up to the displacement.
 const GS_LOAD: [u8; 5] = [0x65, 0x48, 0x8B, 0x04, 0x25];
 
-/// The GS load with this displacement, which stands in little-endian bytes.
+/// The GS load with this displacement, which is in little-endian bytes.
 fn gs_load(disp: &[u8; 4]) -> Insn
     ensures { result ≡ gs_load disp.now }
 {
@@ -60,7 +60,7 @@ pub fn length_of(insn: &Insn) -> usize
     }
 }
 
-/// The instruction at this place of the code.
+/// The instruction at this offset of the code.
 pub fn insn_from(bytes: &[u8], at: usize) -> Option<Insn>
     requires { at ≤ length bytes.now }
     ensures value { result ≡ insn_at (drop at bytes.now) }
@@ -76,7 +76,7 @@ pub fn is_return(insn: &Insn) -> bool
     matches!(insn, Insn::Sysretq)
 }
 
-/// How many instructions the bytes are up to a first SYSRETQ, that one included, or the first place
+/// How many instructions the bytes are up to a first SYSRETQ, that one included, or the first offset
 /// where they are none.
 pub fn count_path(bytes: &[u8]) -> Result<usize, usize>
     ensures exact { result ≡ path_of bytes.now }

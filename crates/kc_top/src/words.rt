@@ -1,9 +1,12 @@
 //! The words of a command.
 
-ghost use Rattle.std.specs.Prelude.{◌≡◌, [], ◌∷◌, ◌++◌, map, string_bytes, OnOk, OnErr};
+ghost use Rattle.std.specs.Prelude.{◌≡◌, [], ◌∷◌, ◌++◌, drop, map, string_bytes, IfOk, OnOk, OnErr};
+ghost use Rattle.std.specs.Vec.Iter.{into_iter_items};
+ghost use Rattle.kc_plain.specs.Appended.{Appended};
 
 use kc_plain::NoMemory;
 use std::alloc::Global;
+use std::env::Args;
 use std::marker::Model;
 
 /// The words after the program's own name, in their order, each seen as its bytes.
@@ -24,7 +27,7 @@ impl Model for Words {
 impl Words {
     /// No words. It takes no memory.
     pub fn new(alloc: Global) -> Words
-        ensures { result ≡ [] }
+        ensures empty { result ≡ [] }
     {
         Words {
             alloc,
@@ -32,10 +35,22 @@ impl Words {
         }
     }
 
-    /// Puts a word behind the others; after `NoMemory` they are as before.
+    /// The words of a program's arguments, the first of which is its own name.
+    pub fn after_name(alloc: Global, mut args: Args) -> Result<Words, NoMemory>
+        ensures words { IfOk result (λ w. w ≡ drop 1 (map (λ s. string_bytes s) (into_iter_items args))) }
+    {
+        let mut words = Words::new(alloc);
+        let _name = args.next();
+        for word in args {
+            words.push(word.as_str())?;
+        }
+        Ok(words)
+    }
+
+    /// Adds a word after the others; after `NoMemory` they are as before.
     pub fn push(&mut self, word: &str) -> Result<(), NoMemory>
-        ensures ok { OnOk result (self.new ≡ self.old ++ word.now ∷ []) }
-        ensures err { OnErr result (self.new ≡ self.old) }
+        ensures added { OnOk result (Appended self.old self.new (word.now ∷ [])) }
+        ensures unchanged { OnErr result (self.new ≡ self.old) }
     {
         let word = String::from_str(self.alloc, word)?;
         self.words.push(word)?;
@@ -44,7 +59,7 @@ impl Words {
 
     /// The words.
     pub(crate) fn as_slice(&self) -> &[String]
-        ensures { map (λ s. string_bytes s) result.now ≡ self.now }
+        ensures words { map (λ s. string_bytes s) result.now ≡ self.now }
     {
         self.words.as_slice()
     }

@@ -1,4 +1,6 @@
 -- What is made of numbers and bits stands for what it should, and is monotone.
+-- A made value has no symbol, so what it stands for is the bits' part and the place's part. The bits' part is kc_bits'
+-- own law; the place's part goes by cases on where the number lies. Monotone: by the same parts, through value_below.
 use Rattle.std.proofs.Common.{◌≡◌, ℕ, ◌%◌, ◌^◌, ◌<◌, ◌≤◌, Bool, true, cond, Option, Some, None, bit_and, refl, sym, ap, ◌∙◌, subst, inl, inr, ◌⊎◌, arith}
 use Rattle.std.proofs.lemmas.Bool.{cases_eq, eq-eqb, ne_eqb}
 use Rattle.std.proofs.lemmas.Nat.{pow_below}
@@ -19,8 +21,10 @@ use Rattle.kc_value.specs.SymbolLaws.{below_same}
 use Rattle.kc_value.specs.Made.{IsPlace, constant, of_bits, derived, derived_from, low}
 use Rattle.kc_value.specs.declared.env.ValueEnv.{ValueEnv}
 
-pub constant_stands : (n : ℕ) (place : Option ℕ) (env : ValueEnv) → n < 2 ^ 64 → HasPlace env.stacks place n → Represents (constant n place) env n
-constant_stands n place env h at = record { symbol = tt; bits = all_stands n h; place = (place, at, bit_at-pow_same (place_bit place)) }
+pub constant_stands : (n : ℕ) (place : Option ℕ) (env : ValueEnv) → n < 2 ^ 64 → HasPlace env.stacks place n
+    → Represents (constant n place) env n
+constant_stands n place env h at =
+    record { symbol = tt; bits = all_stands n h; place = (place, at, bit_at-pow_same (place_bit place)) }
 
 bit_of_place : (place : Option ℕ) → IsPlace place → place_bit place < 17
 bit_of_place (Some s) h = omega arith
@@ -30,7 +34,8 @@ has_place : (place : Option ℕ) (env : ValueEnv) (n : ℕ) → HasPlace env.sta
 has_place (Some s) env n h = h.0
 has_place None env n h = tt
 
-of_bits_stands : (b : KnownBits) (place : Option ℕ) (env : ValueEnv) (n : ℕ) → StandsFor b n → HasPlace env.stacks place n → Represents (of_bits b) env n
+of_bits_stands : (b : KnownBits) (place : Option ℕ) (env : ValueEnv) (n : ℕ) → StandsFor b n
+    → HasPlace env.stacks place n → Represents (of_bits b) env n
 of_bits_stands b place env n s at = record {
   symbol = tt;
   bits = s;
@@ -39,7 +44,8 @@ of_bits_stands b place env n s at = record {
 
 -- all bits are known, and derived is the constant; or some is open, and it is the bits
 derived_cases : (place : ℕ → Option ℕ) (b : KnownBits) →
-    ((unknown b ≡ 0) × (derived place b ≡ constant b.ones (place b.ones))) ⊎ ((unknown b ≡ 0 → ⊥) × (derived place b ≡ of_bits b))
+    ((unknown b ≡ 0) × (derived place b ≡ constant b.ones (place b.ones)))
+    ⊎ ((unknown b ≡ 0 → ⊥) × (derived place b ≡ of_bits b))
 derived_cases place b = elim (cases_eq (unknown b) 0) [
   | inl e ↦ inl (e, ap (λ (t : Bool). derived_from place b (cond t (Some b.ones) None)) (eq-eqb (unknown b) 0 e))
   | inr e ↦ inr (e, ap (λ (t : Bool). derived_from place b (cond t (Some b.ones) None)) (ne_eqb (unknown b) 0 e))
@@ -77,14 +83,17 @@ below_whole a b ha hb below e =
     (omega (arith, p.zeros, p.ones, zeros, ones, full_a, full_b, e, fits_a, fits_b))
 
 value_refl : (v w : AbsValue) → IsValid w.bits → v ≡ w → value_below v w ≡ true
-value_refl v w h e = ap (λ (u : AbsValue). value_below u w) e ∙ value_from w w (below_same w.sym w.sym refl) (bits_laws.below_refl w.bits h) (and_self w.stacks)
+value_refl v w h e = ap (λ (u : AbsValue). value_below u w) e
+    ∙ value_from w w (below_same w.sym w.sym refl) (bits_laws.below_refl w.bits h) (and_self w.stacks)
 
-pub derived_grows : (place : ℕ → Option ℕ) (a b : KnownBits) → ((n : ℕ) → IsPlace (place n)) → IsValid a → IsValid b → is_below a b ≡ true →
+pub derived_grows : (place : ℕ → Option ℕ) (a b : KnownBits) → ((n : ℕ) → IsPlace (place n)) → IsValid a → IsValid b
+    → is_below a b ≡ true →
     value_below (derived place a) (derived place b) ≡ true
 derived_grows place a b places ha hb below = elim (derived_cases place b) [
   | inl q ↦
       let same : a ≡ b = below_whole a b ha hb below q.0 in
-      let valid : IsValid (derived place b).bits = subst (λ (v : AbsValue). IsValid v.bits) (sym q.1) (subst IsValid (sym (whole_is b hb q.0)) hb) in
+      let valid : IsValid (derived place b).bits =
+      subst (λ (v : AbsValue). IsValid v.bits) (sym q.1) (subst IsValid (sym (whole_is b hb q.0)) hb) in
       value_refl (derived place a) (derived place b) valid (ap (derived place) same)
   | inr q ↦
       let goal : AbsValue → Bool = λ v. value_below v (of_bits b) in
@@ -92,8 +101,10 @@ derived_grows place a b places ha hb below = elim (derived_cases place b) [
       elim (derived_cases place a) [
         | inl p ↦
             ap goal p.1
-            ∙ value_from (constant a.ones (place a.ones)) (of_bits b) refl (ap (λ (c : KnownBits). is_below c b) (whole_is a ha p.0) ∙ below)
-            (has_all (2 ^ place_bit (place a.ones)) (pow_below (place_bit (place a.ones)) 17 (bit_of_place (place a.ones) (places a.ones))))
+            ∙ value_from (constant a.ones (place a.ones)) (of_bits b) refl
+            (ap (λ (c : KnownBits). is_below c b) (whole_is a ha p.0) ∙ below)
+            (has_all (2 ^ place_bit (place a.ones)) (pow_below (place_bit (place a.ones)) 17
+            (bit_of_place (place a.ones) (places a.ones))))
         | inr p ↦ ap goal p.1 ∙ value_from (of_bits a) (of_bits b) refl below (and_self all_places)
       ] in
       ap (value_below (derived place a)) q.1 ∙ made
@@ -104,11 +115,14 @@ low_valid : (b : KnownBits) → IsValid b → IsValid (bits_cut 32 b)
 low_valid b h = record { zeros_fit = omega arith; ones_fit = omega arith; apart = cut_apart Long b h }
 
 pub low_stands : (place : ℕ → Option ℕ) (v : AbsValue) (env : ValueEnv) (n : ℕ) →
-    IsValid v.bits → Represents v env n → HasPlace env.stacks (place (n % 2 ^ 32)) (n % 2 ^ 32) → Represents (low place v) env (n % 2 ^ 32)
+    IsValid v.bits → Represents v env n → HasPlace env.stacks (place (n % 2 ^ 32)) (n % 2 ^ 32)
+    → Represents (low place v) env (n % 2 ^ 32)
 low_stands place v env n h r at =
-    derived_stands place (bits_cut 32 v.bits) env (n % 2 ^ 32) (low_valid v.bits h) (omega arith) (cut_sound Long v.bits n r.bits) at
+    derived_stands place (bits_cut 32 v.bits) env (n % 2 ^ 32) (low_valid v.bits h) (omega arith)
+    (cut_sound Long v.bits n r.bits) at
 
-pub low_grows : (place : ℕ → Option ℕ) (v w : AbsValue) → ((n : ℕ) → IsPlace (place n)) → IsValid v.bits → IsValid w.bits → value_below v w ≡ true →
+pub low_grows : (place : ℕ → Option ℕ) (v w : AbsValue) → ((n : ℕ) → IsPlace (place n)) → IsValid v.bits
+    → IsValid w.bits → value_below v w ≡ true →
     value_below (low place v) (low place w) ≡ true
 low_grows place v w places hv hw below =
     derived_grows place (bits_cut 32 v.bits) (bits_cut 32 w.bits) places (low_valid v.bits hv) (low_valid w.bits hw)

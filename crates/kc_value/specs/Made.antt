@@ -45,22 +45,26 @@ IsPlaceOf place b known = (n : ℕ) → bits_single b ≡ Some n → place n ≡
 
 -- derived of b stands for each word that b stands for, at its place
 abbrev pub DerivedStands : KnownBits → Type 0
-DerivedStands b = (place : ℕ → Option ℕ) (env : ValueEnv) (n : ℕ) → n < 2 ^ 64 → StandsFor b n → HasPlace env.stacks (place n) n → Represents (derived place b) env n
+DerivedStands b = (place : ℕ → Option ℕ) (env : ValueEnv) (n : ℕ) → n < 2 ^ 64 → StandsFor b n
+    → HasPlace env.stacks (place n) n → Represents (derived place b) env n
 
 -- derived of greater bits is greater
 abbrev pub DerivedGrows : KnownBits → Type 0
 DerivedGrows b =
-    (place : ℕ → Option ℕ) (greater : KnownBits) → ((n : ℕ) → IsPlace (place n)) → IsValid greater → is_below b greater ≡ true →
+    (place : ℕ → Option ℕ) (greater : KnownBits) → ((n : ℕ) → IsPlace (place n)) → IsValid greater
+    → is_below b greater ≡ true →
     value_below (derived place b) (derived place greater) ≡ true
 
 -- low of v stands for the low 32 bits of each word that v stands for
 abbrev pub LowStands : AbsValue → Type 0
 LowStands v =
-    (place : ℕ → Option ℕ) (env : ValueEnv) (n : ℕ) → n < 2 ^ 64 → Represents v env n → HasPlace env.stacks (place (n % 2 ^ 32)) (n % 2 ^ 32) →
+    (place : ℕ → Option ℕ) (env : ValueEnv) (n : ℕ) → n < 2 ^ 64 → Represents v env n
+    → HasPlace env.stacks (place (n % 2 ^ 32)) (n % 2 ^ 32) →
     Represents (low place v) env (n % 2 ^ 32)
 
 -- low of a greater value is greater
 abbrev pub LowGrows : AbsValue → Type 0
 LowGrows v =
-    (place : ℕ → Option ℕ) (greater : AbsValue) → ((n : ℕ) → IsPlace (place n)) → IsValidValue greater → value_below v greater ≡ true →
+    (place : ℕ → Option ℕ) (greater : AbsValue) → ((n : ℕ) → IsPlace (place n)) → IsValidValue greater
+    → value_below v greater ≡ true →
     value_below (low place v) (low place greater) ≡ true

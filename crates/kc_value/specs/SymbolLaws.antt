@@ -49,7 +49,8 @@ below_plain s t e = ap (λ (u : Sym). is_sym_below s u) e
 pub below_same : (s t : Sym) → s ≡ t → is_sym_below s t ≡ true
 below_same s t e = elim (cases_Bool (is_plain t)) [
   | inl p ↦ ap (λ (b : Bool). cond b true (is_same_sym s t)) p
-  | inr p ↦ ap (λ (b : Bool). cond b true (is_same_sym s t)) p ∙ ap (λ (u : Sym). is_same_sym u t) e ∙ is_same_sym-refl t
+  | inr p ↦ ap (λ (b : Bool). cond b true (is_same_sym s t)) p ∙ ap (λ (u : Sym). is_same_sym u t) e
+      ∙ is_same_sym-refl t
 ]
 
 pub sym_trans : (s t u : Sym) → is_sym_below s t ≡ true → is_sym_below t u ≡ true → is_sym_below s u ≡ true
@@ -65,19 +66,29 @@ sym_antisym s t h k = elim (below_cases s t h) [
 ]
 
 -- a join is the first where the two are one, and Plain else
-pub joined_cases : (s t : Sym) → ((s ≡ t) × (sym_joined s t ≡ s)) ⊎ ((is_same_sym s t ≡ false) × (sym_joined s t ≡ Plain))
+pub joined_cases : (s t : Sym) → ((s ≡ t) × (sym_joined s t ≡ s))
+    ⊎ ((is_same_sym s t ≡ false) × (sym_joined s t ≡ Plain))
 joined_cases s t = elim (cases_Bool (is_same_sym s t)) [
   | inl e ↦ inl (same_sym s t e, ap (λ (b : Bool). cond b s Plain) e)
   | inr e ↦ inr (e, ap (λ (b : Bool). cond b s Plain) e)
 ]
 
 pub sym_left : (s t : Sym) → is_sym_below s (sym_joined s t) ≡ true
-sym_left s t = elim (joined_cases s t) [ inl p ↦ below_same s (sym_joined s t) (sym p.1) | inr p ↦ below_plain s (sym_joined s t) p.1 ]
+sym_left s t = elim (joined_cases s t) [
+  | inl p ↦ below_same s (sym_joined s t) (sym p.1)
+  | inr p ↦
+      below_plain s (sym_joined s t) p.1
+]
 
 pub sym_right : (s t : Sym) → is_sym_below t (sym_joined s t) ≡ true
-sym_right s t = elim (joined_cases s t) [ inl p ↦ below_same t (sym_joined s t) (sym p.0 ∙ sym p.1) | inr p ↦ below_plain t (sym_joined s t) p.1 ]
+sym_right s t = elim (joined_cases s t) [
+  | inl p ↦ below_same t (sym_joined s t) (sym p.0 ∙ sym p.1)
+  | inr p ↦
+      below_plain t (sym_joined s t) p.1
+]
 
-pub sym_least : (s t u : Sym) → is_sym_below s u ≡ true → is_sym_below t u ≡ true → is_sym_below (sym_joined s t) u ≡ true
+pub sym_least : (s t u : Sym) → is_sym_below s u ≡ true → is_sym_below t u ≡ true
+    → is_sym_below (sym_joined s t) u ≡ true
 sym_least s t u h k = elim (joined_cases s t) [
   | inl p ↦ ap (λ (v : Sym). is_sym_below v u) p.1 ∙ h
   | inr p ↦ elim (below_cases s u h) [

@@ -17,10 +17,16 @@ abbrev pub is_subset : ℕ → ℕ → Bool
 is_subset lesser greater = bit_and greater lesser == lesser
 
 abbrev pub value_below : AbsValue → AbsValue → Bool
-value_below lesser greater = is_sym_below lesser.sym greater.sym && (is_below lesser.bits greater.bits && is_subset lesser.stacks greater.stacks)
+value_below lesser greater =
+    is_sym_below lesser.sym greater.sym && (is_below lesser.bits greater.bits && is_subset lesser.stacks greater.stacks)
 
 abbrev pub value_joined : AbsValue → AbsValue → AbsValue
-value_joined v w = record { sym = sym_joined v.sym w.sym; bits = bits_joined v.bits w.bits; stacks = bit_or v.stacks w.stacks }
+value_joined v w = record {
+  sym = sym_joined v.sym w.sym;
+  bits = bits_joined v.bits w.bits;
+  stacks =
+      bit_or v.stacks w.stacks;
+}
 
 -- each of the 16 stacks, and outside
 abbrev pub all_places : ℕ

@@ -20,10 +20,12 @@ use Rattle.kc_value.specs.declared.symbol.Sym.TheVariants.{Plain}
 -- ---- sets of places
 
 or_left : (x y : ℕ) → Has (bit_or x y) x
-or_left x y = same_from_bits (bit_and (bit_or x y) x) x (λ i. bit_at_and (bit_or x y) x i ∙ omega (arith, bit_at_or x y i))
+or_left x y = same_from_bits (bit_and (bit_or x y) x) x
+    (λ i. bit_at_and (bit_or x y) x i ∙ omega (arith, bit_at_or x y i))
 
 or_right : (x y : ℕ) → Has (bit_or x y) y
-or_right x y = same_from_bits (bit_and (bit_or x y) y) y (λ i. bit_at_and (bit_or x y) y i ∙ omega (arith, bit_at_or x y i))
+or_right x y = same_from_bits (bit_and (bit_or x y) y) y
+    (λ i. bit_at_and (bit_or x y) y i ∙ omega (arith, bit_at_or x y i))
 
 or_least : (x y z : ℕ) → Has z x → Has z y → Has z (bit_or x y)
 or_least x y z h k = same_from_bits (bit_and z (bit_or x y)) (bit_or x y) (λ i.
@@ -47,7 +49,8 @@ value_facts v w h =
     let q = and_parts (is_below v.bits w.bits) (is_subset v.stacks w.stacks) p.1 in
     record { sym_below = p.0; bits_below = q.0; places = eqb-true (bit_and w.stacks v.stacks) v.stacks q.1 }
 
-pub value_from : (v w : AbsValue) → is_sym_below v.sym w.sym ≡ true → is_below v.bits w.bits ≡ true → Has w.stacks v.stacks → value_below v w ≡ true
+pub value_from : (v w : AbsValue) → is_sym_below v.sym w.sym ≡ true → is_below v.bits w.bits ≡ true
+    → Has w.stacks v.stacks → value_below v w ≡ true
 value_from v w s b p =
     and_from (is_sym_below v.sym w.sym) (is_below v.bits w.bits && is_subset v.stacks w.stacks) s
     (and_from (is_below v.bits w.bits) (is_subset v.stacks w.stacks) b (eq-eqb (bit_and w.stacks v.stacks) v.stacks p))
@@ -56,11 +59,13 @@ same_value : (v w : AbsValue) → v.sym ≡ w.sym → v.bits ≡ w.bits → v.st
 same_value v w p q r = λ i. record { sym = p i; bits = q i; stacks = r i }
 
 places_le : (v w : AbsValue) → IsValueBelow v w → v.stacks ≤ w.stacks
-places_le v w b = let h : bit_and w.stacks v.stacks ≤ w.stacks = and_le_l w.stacks v.stacks in omega (arith, b.places, h)
+places_le v w b = let h : bit_and w.stacks v.stacks ≤ w.stacks = and_le_l w.stacks v.stacks in
+    omega (arith, b.places, h)
 
 -- ---- the laws
 
-value_trans : (x y z : AbsValue) → IsValidValue x → IsValidValue y → IsValidValue z → value_below x y ≡ true → value_below y z ≡ true → value_below x z ≡ true
+value_trans : (x y z : AbsValue) → IsValidValue x → IsValidValue y → IsValidValue z → value_below x y ≡ true
+    → value_below y z ≡ true → value_below x z ≡ true
 value_trans x y z hx hy hz h k =
     let p = value_facts x y h in
     let q = value_facts y z k in
@@ -68,7 +73,8 @@ value_trans x y z hx hy hz h k =
     (bits_laws.below_trans x.bits y.bits z.bits hx.bits_fit hy.bits_fit hz.bits_fit p.bits_below q.bits_below)
     (has_trans z.stacks y.stacks x.stacks q.places p.places)
 
-value_antisym : (x y : AbsValue) → IsValidValue x → IsValidValue y → value_below x y ≡ true → value_below y x ≡ true → x ≡ y
+value_antisym : (x y : AbsValue) → IsValidValue x → IsValidValue y → value_below x y ≡ true → value_below y x ≡ true
+    → x ≡ y
 value_antisym x y hx hy h k =
     let p = value_facts x y h in
     let q = value_facts y x k in
@@ -83,7 +89,8 @@ value_join_valid x y hx hy = record {
   stacks_fit = or_lt 17 x.stacks y.stacks hx.stacks_fit hy.stacks_fit;
 }
 
-value_least : (x y z : AbsValue) → IsValidValue x → IsValidValue y → IsValidValue z → value_below x z ≡ true → value_below y z ≡ true → value_below (value_joined x y) z ≡ true
+value_least : (x y z : AbsValue) → IsValidValue x → IsValidValue y → IsValidValue z → value_below x z ≡ true
+    → value_below y z ≡ true → value_below (value_joined x y) z ≡ true
 value_least x y z hx hy hz h k =
     let p = value_facts x z h in
     let q = value_facts y z k in
@@ -94,10 +101,14 @@ value_least x y z hx hy hz h k =
 value_falls : (x y : AbsValue) → IsValidValue x → IsValidValue y → value_below x y ≡ true →
     (sym_rank y.sym ≤ sym_rank x.sym) × (bits_rank y.bits ≤ bits_rank x.bits) × (x.stacks ≤ y.stacks)
 value_falls x y hx hy h =
-    let p = value_facts x y h in
-    (sym_falls x.sym y.sym p.sym_below, bits_laws.rank_falls x.bits y.bits hx.bits_fit hy.bits_fit p.bits_below, places_le x y p)
+    let p = value_facts x y h in (
+      sym_falls x.sym y.sym p.sym_below,
+      bits_laws.rank_falls x.bits y.bits hx.bits_fit hy.bits_fit p.bits_below,
+      places_le x y p,
+    )
 
-value_tied : (x y : AbsValue) → IsValidValue x → IsValidValue y → value_below x y ≡ true → value_rank x ≡ value_rank y → x ≡ y
+value_tied : (x y : AbsValue) → IsValidValue x → IsValidValue y → value_below x y ≡ true → value_rank x ≡ value_rank y
+    → x ≡ y
 value_tied x y hx hy h e =
     let p = value_facts x y h in
     let f = value_falls x y hx hy h in
@@ -113,18 +124,22 @@ value_laws = record {
   alike_sym = λ x y hx hy h. tt;
   alike_trans = λ x y z hx hy hz h k. tt;
   ordered_alike = λ x y hx hy h. tt;
-  below_refl = λ x h. value_from x x (below_same x.sym x.sym refl) (bits_laws.below_refl x.bits h.bits_fit) (and_self x.stacks);
+  below_refl = λ x h. value_from x x (below_same x.sym x.sym refl) (bits_laws.below_refl x.bits h.bits_fit)
+      (and_self x.stacks);
   below_trans = value_trans;
   below_antisym = value_antisym;
   join_valid = λ x y hx hy h. value_join_valid x y hx hy;
   join_left = λ x y hx hy h.
-      value_from x (value_joined x y) (sym_left x.sym y.sym) (bits_laws.join_left x.bits y.bits hx.bits_fit hy.bits_fit tt) (or_left x.stacks y.stacks);
+      value_from x (value_joined x y) (sym_left x.sym y.sym)
+      (bits_laws.join_left x.bits y.bits hx.bits_fit hy.bits_fit tt) (or_left x.stacks y.stacks);
   join_right = λ x y hx hy h.
-      value_from y (value_joined x y) (sym_right x.sym y.sym) (bits_laws.join_right x.bits y.bits hx.bits_fit hy.bits_fit tt) (or_right x.stacks y.stacks);
+      value_from y (value_joined x y) (sym_right x.sym y.sym)
+      (bits_laws.join_right x.bits y.bits hx.bits_fit hy.bits_fit tt) (or_right x.stacks y.stacks);
   join_least = λ x y z hx hy hz h k l. value_least x y z hx hy hz k l;
   top_valid = λ x h. record { sym_fits = tt; bits_fit = bits_laws.top_valid x.bits h.bits_fit; stacks_fit = lit< tt };
   top_above = λ x y hx hy h.
-      value_from y value_top (below_plain y.sym Plain refl) (bits_laws.top_above x.bits y.bits hx.bits_fit hy.bits_fit tt) (has_all y.stacks hy.stacks_fit);
+      value_from y value_top (below_plain y.sym Plain refl)
+      (bits_laws.top_above x.bits y.bits hx.bits_fit hy.bits_fit tt) (has_all y.stacks hy.stacks_fit);
   rank_falls = λ x y hx hy h. let f = value_falls x y hx hy h in omega (arith, f.0, f.1, f.2);
   rank_tied = value_tied;
 }
@@ -138,7 +153,8 @@ names_grow s t env n h named = elim (below_cases s t h) [
 ]
 
 -- what a lesser value stands for, a greater one stands for too
-pub value_grows : (v w : AbsValue) (env : ValueEnv) (n : ℕ) → value_below v w ≡ true → Represents v env n → Represents w env n
+pub value_grows : (v w : AbsValue) (env : ValueEnv) (n : ℕ) → value_below v w ≡ true → Represents v env n
+    → Represents w env n
 value_grows v w env n h r =
     let p = value_facts v w h in
     record {

@@ -4,8 +4,6 @@
 mod env;
 mod made;
 mod symbol;
-#[cfg(test)]
-mod tests;
 mod value;
 
 pub use env::ValueEnv;

@@ -77,7 +77,8 @@ impl Value {
     /// where all bits are known.
     pub fn low(&self, stack: Option<u8>) -> Value
         requires { IsPlace stack }
-        ensures value { (place : ℕ → Option ℕ) → IsPlaceOf place (low_bits self.now) stack → result ≡ low place self.now }
+        ensures value { (place : ℕ → Option ℕ) → IsPlaceOf place (low_bits self.now) stack
+            → result ≡ low place self.now }
         ensures sound { LowStands self.now }
         ensures monotone { LowGrows self.now }
     {

@@ -1,4 +1,6 @@
 -- The flags of sums and differences, as they are computed, at any width up to 64 bits.
+-- The code adds at 64 bits and compares results; the definition adds as numbers and compares with 2 ^ width. Each flag
+-- is one equation between the two tests, by the quotient and rest of both operands at the width; omega decides it.
 use Rattle.std.proofs.Common.{◌≡◌, ℕ, ◌+◌, ◌-◌, ◌*◌, ◌/◌, ◌%◌, ◌^◌, ◌<◌, ◌≤◌, min, not, ◌&&◌, ◌==◌, leb, ltb, bit_and, bit_xor, arith, sym, ap, ◌∙◌, subst, inl, inr, lit≤}
 use Rattle.std.proofs.lemmas.Nat.{and_mask, shr_split, pow_pos, mod_below, pow-add, div_below}
 use Rattle.std.proofs.lemmas.Nat.Bits.{bit_at_cat_low, bit_at-lt, bit_at_and, bit_at_xor}
@@ -38,7 +40,8 @@ wraps m r s t hr hs pos e =
       | inr h ↦
           let back : (r + s - m) + m ≡ r + s = omega arith in
           let small : r + s - m < m = omega arith in
-          let t_is : t ≡ r + s - m = e ∙ ap (λ (x : ℕ). x % m) (sym back) ∙ add-mod_right (r + s - m) m ∙ mod-eq_of_lt small in
+          let t_is : t ≡ r + s - m = e ∙ ap (λ (x : ℕ). x % m) (sym back) ∙ add-mod_right (r + s - m) m
+          ∙ mod-eq_of_lt small in
           lt-ltb t r (omega arith) ∙ sym (le-leb m (r + s) h)
     ]
 
@@ -47,28 +50,34 @@ pub carries-below : (m n a b : ℕ) → n ≤ m → ltb ((a + b) % 2 ^ m % 2 ^ n
 carries-below m n a b h =
     let cut : (a + b) % 2 ^ m % 2 ^ n ≡ (a % 2 ^ n + b % 2 ^ n) % 2 ^ n =
     mod_of_mod m n (a + b) h ∙ sym (mod-add-mod a (2 ^ n) b) ∙ sym (add-mod-mod (a % 2 ^ n) b (2 ^ n)) in
-    wraps (2 ^ n) (a % 2 ^ n) (b % 2 ^ n) _ (mod_below a (2 ^ n) (pow_pos n)) (mod_below b (2 ^ n) (pow_pos n)) (pow_pos n) cut
+    wraps (2 ^ n) (a % 2 ^ n) (b % 2 ^ n) _ (mod_below a (2 ^ n) (pow_pos n)) (mod_below b (2 ^ n) (pow_pos n))
+    (pow_pos n) cut
 
 both_differ : (x y z : ℕ) → x < 2 → y < 2 → z < 2 → (min ((x + z) % 2) ((y + z) % 2) == 1) ≡ ((x == y) && not (z == x))
 both_differ x y z hx hy hz = grind (arith, nat_tests)
 
-both_differ_minus : (x y z : ℕ) → x < 2 → y < 2 → z < 2 → (min ((x + y) % 2) ((x + z) % 2) == 1) ≡ ((y == z) && not (x == y))
+both_differ_minus : (x y z : ℕ) → x < 2 → y < 2 → z < 2
+    → (min ((x + y) % 2) ((x + z) % 2) == 1) ≡ ((y == z) && not (x == y))
 both_differ_minus x y z hx hy hz = grind (arith, nat_tests)
 
 -- overflow of a sum, as the sign of a mask
-pub overflows-mask : (m n a b : ℕ) → 0 < n → n ≤ m → (sign n (bit_and (bit_xor a ((a + b) % 2 ^ m)) (bit_xor b ((a + b) % 2 ^ m))) == 1) ≡ overflows n a b (a + b)
+pub overflows-mask : (m n a b : ℕ) → 0 < n → n ≤ m
+    → (sign n (bit_and (bit_xor a ((a + b) % 2 ^ m)) (bit_xor b ((a + b) % 2 ^ m))) == 1) ≡ overflows n a b (a + b)
 overflows-mask m n a b pos h =
     let r : ℕ = (a + b) % 2 ^ m in
     let k : ℕ = n - 1 in
     let top : bit_at r k ≡ bit_at (a + b) k = bit_at-mod (a + b) m k (omega arith) in
-    let masked : bit_at (bit_and (bit_xor a r) (bit_xor b r)) k ≡ min ((bit_at a k + bit_at r k) % 2) ((bit_at b k + bit_at r k) % 2) =
+    let masked : bit_at (bit_and (bit_xor a r) (bit_xor b r)) k ≡ min ((bit_at a k + bit_at r k) % 2)
+    ((bit_at b k + bit_at r k) % 2) =
     bit_at_and (bit_xor a r) (bit_xor b r) k ∙ ap (λ (x : ℕ). min x (bit_at (bit_xor b r) k)) (bit_at_xor a r k)
     ∙ ap (λ (x : ℕ). min ((bit_at a k + bit_at r k) % 2) x) (bit_at_xor b r k) in
-    ap (λ (x : ℕ). x == 1) masked ∙ both_differ (bit_at a k) (bit_at b k) (bit_at r k) (bit_at-lt a k) (bit_at-lt b k) (bit_at-lt r k)
+    ap (λ (x : ℕ). x == 1) masked
+    ∙ both_differ (bit_at a k) (bit_at b k) (bit_at r k) (bit_at-lt a k) (bit_at-lt b k) (bit_at-lt r k)
     ∙ ap (λ (x : ℕ). (bit_at a k == bit_at b k) && not (x == bit_at a k)) top
 
 -- a minus b in a whole of big times small, by the quotients and the rests of small
-regroup : (qa ra qb rb big small a b whole : ℕ) → qa * small + ra ≡ a → qb * small + rb ≡ b → whole ≡ big * small → qb < big → rb < small →
+regroup : (qa ra qb rb big small a b whole : ℕ) → qa * small + ra ≡ a → qb * small + rb ≡ b → whole ≡ big * small
+    → qb < big → rb < small →
     a + (whole - b) ≡ (qa + (big - qb - 1)) * small + (ra + (small - rb))
 regroup qa ra qb rb big small a b whole ea eb ew lt below =
     let d : ℕ = big - qb - 1 in
@@ -81,12 +90,15 @@ pub difference-mod : (m n a b : ℕ) → n ≤ m → b < 2 ^ m → (a + (2 ^ m -
 difference-mod m n a b h fits =
     let e : (m - n) + n ≡ m = omega arith in
     let whole : 2 ^ m ≡ 2 ^ (m - n) * 2 ^ n = ap (λ (k : ℕ). 2 ^ k) (sym e) ∙ pow-add 2 (m - n) n in
-    let quotient : b / 2 ^ n < 2 ^ (m - n) = div_below b (2 ^ n) (2 ^ (m - n)) (pow_pos n) (subst (λ (x : ℕ). b < x) whole fits) in
+    let quotient : b / 2 ^ n < 2 ^ (m - n) =
+    div_below b (2 ^ n) (2 ^ (m - n)) (pow_pos n) (subst (λ (x : ℕ). b < x) whole fits) in
     let parts_a : a / 2 ^ n * 2 ^ n + a % 2 ^ n ≡ a = shr_split a n in
     let parts_b : b / 2 ^ n * 2 ^ n + b % 2 ^ n ≡ b = shr_split b n in
     let below : b % 2 ^ n < 2 ^ n = mod_below b (2 ^ n) (pow_pos n) in
-    let regrouped : a + (2 ^ m - b) ≡ (a / 2 ^ n + (2 ^ (m - n) - b / 2 ^ n - 1)) * 2 ^ n + (a % 2 ^ n + (2 ^ n - b % 2 ^ n)) =
-    regroup (a / 2 ^ n) (a % 2 ^ n) (b / 2 ^ n) (b % 2 ^ n) (2 ^ (m - n)) (2 ^ n) a b (2 ^ m) parts_a parts_b whole quotient below in
+    let regrouped : a + (2 ^ m - b) ≡ (a / 2 ^ n + (2 ^ (m - n) - b / 2 ^ n - 1)) * 2 ^
+    n + (a % 2 ^ n + (2 ^ n - b % 2 ^ n)) =
+    regroup (a / 2 ^ n) (a % 2 ^ n) (b / 2 ^ n) (b % 2 ^ n) (2 ^ (m - n)) (2 ^ n) a b (2 ^ m) parts_a parts_b whole
+    quotient below in
     mod_of_mod m n (a + (2 ^ m - b)) h ∙ ap (λ (x : ℕ). x % 2 ^ n) regrouped
     ∙ mul-add-mod_self_right (a / 2 ^ n + (2 ^ (m - n) - b / 2 ^ n - 1)) (2 ^ n) (a % 2 ^ n + (2 ^ n - b % 2 ^ n))
 
@@ -98,10 +110,12 @@ overflows-mask_minus m n a b pos h fits =
     let k : ℕ = n - 1 in
     let top : bit_at r k ≡ bit_at (difference n a b) k =
     sym (bit_at-mod r n k (omega arith)) ∙ ap (λ (x : ℕ). bit_at x k) (difference-mod m n a b h fits) in
-    let masked : bit_at (bit_and (bit_xor a b) (bit_xor a r)) k ≡ min ((bit_at a k + bit_at b k) % 2) ((bit_at a k + bit_at r k) % 2) =
+    let masked : bit_at (bit_and (bit_xor a b) (bit_xor a r)) k ≡ min ((bit_at a k + bit_at b k) % 2)
+    ((bit_at a k + bit_at r k) % 2) =
     bit_at_and (bit_xor a b) (bit_xor a r) k ∙ ap (λ (x : ℕ). min x (bit_at (bit_xor a r) k)) (bit_at_xor a b k)
     ∙ ap (λ (x : ℕ). min ((bit_at a k + bit_at b k) % 2) x) (bit_at_xor a r k) in
-    ap (λ (x : ℕ). x == 1) masked ∙ both_differ_minus (bit_at a k) (bit_at b k) (bit_at r k) (bit_at-lt a k) (bit_at-lt b k) (bit_at-lt r k)
+    ap (λ (x : ℕ). x == 1) masked
+    ∙ both_differ_minus (bit_at a k) (bit_at b k) (bit_at r k) (bit_at-lt a k) (bit_at-lt b k) (bit_at-lt r k)
     ∙ ap (λ (x : ℕ). (bit_at b k == x) && not (bit_at a k == bit_at b k)) top
 
 -- each width is in the range that the lemmas ask

@@ -1,4 +1,5 @@
--- The bits of a sign extension.
+-- The bits of a sign extension: by cases on bit 31, which is 32 ones above the number or none, and on whether the bit
+-- that is asked for lies below bit 32.
 use Rattle.std.proofs.Common.{◌≡◌, ℕ, ◌+◌, ◌-◌, ◌*◌, ◌^◌, ◌<◌, min, ◌==◌, arith, sym, ◌∙◌, inl, inr}
 use Rattle.std.proofs.lemmas.Nat.Bits.{bit_at_cat_low, bit_at_cat_high, bit_at_ones, bit_at_above, bit_at-lt}
 use Rattle.std.proofs.lemmas.Bool.{cases_lt, cases_Bool, eqb-true, eqb-false}
@@ -21,7 +22,8 @@ bit_at-sign_extended v i fits h =
                 rw (is, place) (bit_at_cat_low (2 ^ 32 - 1) 32 v i low)
             | inr high ↦
                 let place : min i 31 ≡ 31 = omega arith in
-                rw (is, place) (bit_at_cat_high (2 ^ 32 - 1) 32 v i fits high ∙ bit_at_ones 32 (i - 32) (omega arith) ∙ sym one)
+                rw (is, place) (bit_at_cat_high (2 ^ 32 - 1) 32 v i fits high ∙ bit_at_ones 32 (i - 32) (omega arith)
+                ∙ sym one)
           ]
       | inr clear ↦
           let zero_is : bit_at v 31 ≡ 0 = omega (arith, bit_at-lt v 31, eqb-false (bit_at v 31) 1 clear) in

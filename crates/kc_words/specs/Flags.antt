@@ -44,9 +44,11 @@ result_flags n r = flag 2 (count_ones (r % 256) % 2 == 0) + flag 6 (r % 2 ^ n ==
 
 -- CF (bit 0): a carry out of the top bit; AF (bit 4): a carry out of bit 3; OF (bit 11)
 abbrev pub sum_flags : ℕ → ℕ → ℕ → ℕ
-sum_flags n a b = flag 0 (carries n a b) + flag 4 (carries 4 a b) + flag 11 (overflows n a b (a + b)) + result_flags n (a + b)
+sum_flags n a b = flag 0 (carries n a b) + flag 4 (carries 4 a b) + flag 11 (overflows n a b (a + b)) + result_flags n
+    (a + b)
 
 -- the same of a - b, with borrows; a is the sum of b and the difference, and overflows as such a sum does
 abbrev pub difference_flags : ℕ → ℕ → ℕ → ℕ
 difference_flags n a b =
-    flag 0 (borrows n a b) + flag 4 (borrows 4 a b) + flag 11 (overflows n b (difference n a b) a) + result_flags n (difference n a b)
+    flag 0 (borrows n a b) + flag 4 (borrows 4 a b) + flag 11 (overflows n b (difference n a b) a) + result_flags n
+    (difference n a b)

@@ -5,8 +5,6 @@ mod flags;
 mod little_endian;
 mod sign;
 mod span;
-#[cfg(test)]
-mod tests;
 mod width;
 
 pub use flags::{add_flags, logic_flags, sub_flags};

@@ -1,11 +1,11 @@
 use Rattle.std.proofs.Common.{◌≡◌, suc, ◌≤◌, ◌+◌, length, take, sym, ap, subst, arith}
 use Rattle.std.proofs.lemmas.List.{length-drop, take_rest}
 use Rattle.kc_insn.specs.Spells.{Spells}
-use Rattle.kc_decode.specs.Begins.{HasFront}
+use Rattle.kc_decode.specs.Begins.{HasSpelledPrefix}
 use Rattle.decode_rate.specs.Run.{AreInstructions}
 use Rattle.decode_rate.proofs.count.Goals as goal
 
--- the instruction that was decoded stands behind the others, and has a byte
+-- the instruction that was decoded comes after the others, and has a byte
 pub loop-len-preserved : goal.loop-len-preserved
 loop-len-preserved c =
     let bytes = c.args.bytes.now in
@@ -24,5 +24,5 @@ loop-len-preserved c =
 pub returns-clause-ended : goal.returns-clause-ended
 returns-clause-ended c front =
     let at = c.loop-len.at in
-    let there = subst (λ l. HasFront l at) (sym (take_rest c.args.bytes.now at)) front in
+    let there = subst (λ l. HasSpelledPrefix l at) (sym (take_rest c.args.bytes.now at)) front in
     c.in_default.not-Ok (there.1, there.0) (c.decode.ensures.only there.0 there.1 there.2 there.3)

@@ -2,4 +2,4 @@ use Rattle.kc_decode.proofs.Answers.{unique}
 use Rattle.kc_decode.proofs.decoder.one_reading.Goals as goal
 
 pub returns : goal.returns
-returns c = unique
+returns c = record { reading = unique }

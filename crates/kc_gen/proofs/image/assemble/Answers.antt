@@ -25,7 +25,8 @@ loop-line-preserved c =
     let is = first_left c.args.lines.now l.line-index (At 0) c.loop-line-test.true in
     let line = get_or c.args.lines.now l.line-index (At 0) in
     let rest = drop (l.line-index + 1) c.args.lines.now in
-    let first : First c.args.load l.at line rest = first_of c.args.load l.at line rest (subst (λ ls. IsTrue (is_listing c.args.load l.at ls)) is l.invariant.1) in
+    let first : First c.args.load l.at line rest =
+    first_of c.args.load l.at line rest (subst (λ ls. IsTrue (is_listing c.args.load l.at ls)) is l.invariant.1) in
     let made = c.in_ok-at.ensures in (
       one_written l.at c.in_ok-at.at line rest _ l.out.items _ _ is l.invariant.0 made.0 made.1,
       subst (λ a. IsTrue (is_listing c.args.load a rest)) (sym made.1) first.others,

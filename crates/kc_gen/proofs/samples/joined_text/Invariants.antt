@@ -4,4 +4,5 @@ use Rattle.kc_gen.proofs.samples.joined_text.Given as goal
 
 -- what is joined and the parts that are left give all
 abbrev pub invariant-loop-part : goal.invariant-loop-part
-invariant-loop-part l = l.text.items ++ flat_map (λ p. p.now) (drop l.part-index l.parts) ≡ flat_map (λ p. p.now) l.parts
+invariant-loop-part l =
+    l.text.items ++ flat_map (λ p. p.now) (drop l.part-index l.parts) ≡ flat_map (λ p. p.now) l.parts

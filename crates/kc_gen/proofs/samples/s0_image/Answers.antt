@@ -6,4 +6,5 @@ use Rattle.kc_gen.proofs.samples.s0_image.Goals as goal
 pub returns : goal.returns
 unfolding sample_image
 returns c =
-    c.in_ok-extend_from_slice.ensures.items ∙ ap (λ xs. xs ++ 0xEB ∷ 0xFE ∷ []) (c.in_ok-image.ensures ∙ append-nil (header load_address))
+    c.in_ok-extend_from_slice.ensures.items
+    ∙ ap (λ xs. xs ++ 0xEB ∷ 0xFE ∷ []) (c.in_ok-image.ensures.image ∙ append-nil (header load_address))

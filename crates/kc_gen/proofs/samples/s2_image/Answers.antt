@@ -7,9 +7,13 @@ use Rattle.kc_gen.proofs.samples.s2_image.Goals as goal
 
 pub assemble-requires : goal.assemble-requires
 assemble-requires c =
-    subst (λ ls. IsTrue (is_listing load_address load_address ls)) (sym (c.deref.ensures.value ∙ c.in_ok-lines.ensures)) s2_is_listing
+    record {
+      listing = subst (λ ls. IsTrue (is_listing load_address load_address ls))
+          (sym (c.deref.ensures.value ∙ c.in_ok-lines.ensures)) s2_is_listing;
+    }
 
 pub returns : goal.returns
 unfolding sample_image
 returns c =
-    subst (λ ls. IfOk c.assemble.result (λ v. v.items ≡ image_of load_address ls)) (c.deref.ensures.value ∙ c.in_ok-lines.ensures) c.assemble.ensures
+    subst (λ ls. IfOk c.assemble.result (λ v. v.items ≡ image_of load_address ls))
+    (c.deref.ensures.value ∙ c.in_ok-lines.ensures) c.assemble.ensures.image

@@ -14,11 +14,13 @@ pub returns-in_err-segments : goal.returns-in_err-segments
 returns-in_err-segments c =
     let exit = err_from_is_err_and c.from_residual.result c.from_residual.ensures.1 in
     rw (exit.1, exit.2)
-    (over_fails (add_segment c.args.file.now) _ _ _ _ _ _ _ c.in_err-segments.field-0.0 c.loop-i-test.true (omega (arith, c.from.ensures)) c.in_err-segments.ensures c.loop-i.invariant)
+    (over_fails (add_segment c.args.file.now) _ _ _ _ _ _ _ c.in_err-segments.field-0.0 c.loop-i-test.true
+    (omega (arith, c.from.ensures)) c.in_err-segments.ensures c.loop-i.invariant)
 
 pub loop-i-preserved : goal.loop-i-preserved
 loop-i-preserved c =
-    over_more (add_segment c.args.file.now) _ _ _ _ _ _ _ _ c.loop-i-test.true (omega (arith, c.from.ensures)) c.in_ok-segments.ensures c.loop-i.invariant
+    over_more (add_segment c.args.file.now) _ _ _ _ _ _ _ _ c.loop-i-test.true (omega (arith, c.from.ensures))
+    c.in_ok-segments.ensures c.loop-i.invariant
 
 pub returns : goal.returns
 returns c = over_all (add_segment c.args.file.now) _ _ _ _ _ _ c.loop-i-test.false c.loop-i.invariant

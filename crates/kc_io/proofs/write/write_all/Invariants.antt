@@ -1,14 +1,13 @@
-use Rattle.std.proofs.Common.{◌≡◌, ◌≤◌, ◌-◌, take, length}
-use Rattle.std.specs.Io.KnownBytes.{Appends}
+use Rattle.std.proofs.Common.{◌≤◌, ◌-◌, take, length}
+use Rattle.kc_io.specs.Sink.{SinkKept, Writes}
 use Rattle.kc_io.proofs.write.write_all.Given as goal
 
--- the front up to here was added
+-- the prefix up to here was added, and nothing was refused
 abbrev pub invariant-loop-at : goal.invariant-loop-at
 invariant-loop-at g l = record {
   within : l.at ≤ length l.piece;
-  added : Appends (g.S.Sink.written l.initial.out) (g.S.Sink.written l.out) (take l.at l.piece);
-  later : g.S.Sink.faults l.initial.out ≤ g.S.Sink.faults l.out;
-  plan : g.S.Sink.plan l.out ≡ g.S.Sink.plan l.initial.out;
+  written : Writes (g.S.Sink.state l.initial.out) (g.S.Sink.state l.out) (take l.at l.piece);
+  kept : SinkKept (g.S.Sink.state l.initial.out) (g.S.Sink.state l.out);
 }
 
 abbrev pub decreases-loop-at : goal.decreases-loop-at

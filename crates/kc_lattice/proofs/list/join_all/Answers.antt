@@ -6,8 +6,10 @@ use Rattle.kc_lattice.proofs.list.join_all.Goals as goal
 -- and so alike what was joined so far
 pub join-requires : goal.join-requires
 join-requires g c =
-    bound_alike g.met.D.Domain.laws c.args.total.now c.item-item.result c.loop-item.total (take c.loop-item.item-index c.args.items.now)
-    c.tell-in-loop-item.ensures (subst (g.D.Domain.alike c.args.total.now) (sym c.item-item.is) (c.requires c.loop-item.item-index c.item-item.result c.loop-item-test.true))
+    bound_alike g.met.D.Domain.laws c.args.total.now c.item-item.result c.loop-item.total
+    (take c.loop-item.item-index c.args.items.now)
+    c.tell-in-loop-item.ensures (subst (g.D.Domain.alike c.args.total.now) (sym c.item-item.is)
+    (c.requires c.loop-item.item-index c.item-item.result c.loop-item-test.true))
     c.loop-item.invariant.1
 
 pub loop-item-preserved : goal.loop-item-preserved
@@ -18,6 +20,12 @@ loop-item-preserved g c =
     let xs = take c.loop-item.item-index c.args.items.now in
     let now : take (c.loop-item.item-index + 1) c.args.items.now ≡ xs ++ x ∷ [] =
     take_read c.args.items.now c.loop-item.item-index x c.loop-item-test.true c.item-item.is in
-    let alike = subst (m.alike first) (sym c.item-item.is) (c.requires c.loop-item.item-index x c.loop-item-test.true) in
-    let more = IsBound-more g.met.D.Domain.laws first x c.loop-item.total xs c.tell-in-loop-item.ensures alike c.loop-item.invariant.1 in
-    rw (now, c.join.ensures) (ap (λ (z : _). m.joined z x) c.loop-item.invariant.0 ∙ sym (fold-append m.joined first xs (x ∷ [])), more)
+    let alike = subst (m.alike first) (sym c.item-item.is)
+    (c.requires c.loop-item.item-index x c.loop-item-test.true) in
+    let more = IsBound-more g.met.D.Domain.laws first x c.loop-item.total xs c.tell-in-loop-item.ensures alike
+    c.loop-item.invariant.1 in
+    rw (now, c.join.ensures) (
+      ap (λ (z : _). m.joined z x) c.loop-item.invariant.0
+          ∙ sym (fold-append m.joined first xs (x ∷ [])),
+      more,
+    )

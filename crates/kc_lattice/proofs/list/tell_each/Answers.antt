@@ -12,4 +12,5 @@ loop-item-preserved g c =
     (All-push valid (take c.loop-item.item-index xs) c.item-item.result c.loop-item.invariant c.tell.ensures)
 
 pub returns : goal.returns
-returns g c = All-same g.V.Domain.valid _ _ (sym (take_all c.loop-item.item-index c.args.items.now c.loop-item-test.false)) c.loop-item.invariant
+returns g c = All-same g.V.Domain.valid _ _ (sym
+    (take_all c.loop-item.item-index c.args.items.now c.loop-item-test.false)) c.loop-item.invariant

@@ -8,12 +8,14 @@ loop-rest-init c = (omega arith, omega arith, refl, omega (arith, c.ranges.n.fit
 pub returns-then-rest-eq0-clause-zeros : goal.returns-then-rest-eq0-clause-zeros
 returns-then-rest-eq0-clause-zeros c =
     let l = c.loop-rest in
-    zeros_stay l.at l.rest c.digit.result l.out l.invariant.0 (omega (arith, l.invariant.1, l.invariant.2)) c.digit.ensures l.invariant.1 l.invariant.4
+    zeros_stay l.at l.rest c.digit.result l.out l.invariant.0 (omega (arith, l.invariant.1, l.invariant.2))
+    c.digit.ensures.glyph l.invariant.1 l.invariant.4
 
 pub returns-then-rest-eq0-clause-digits : goal.returns-then-rest-eq0-clause-digits
 returns-then-rest-eq0-clause-digits c =
     let l = c.loop-rest in
-    last_digit l.at l.rest c.digit.result l.out l.invariant.0 (omega (arith, l.invariant.1, l.invariant.2)) c.digit.ensures _ c.if-rest-eq0.true l.invariant.5
+    last_digit l.at l.rest c.digit.result l.out l.invariant.0 (omega (arith, l.invariant.1, l.invariant.2))
+    c.digit.ensures.glyph _ c.if-rest-eq0.true l.invariant.5
 
 pub loop-rest-preserved : goal.loop-rest-preserved
 loop-rest-preserved c =
@@ -24,6 +26,8 @@ loop-rest-preserved c =
       omega (arith, l.invariant.1),
       length-set l.out (l.at - 1) c.digit.result ∙ l.invariant.2,
       less.1,
-      zeros_stay l.at l.rest c.digit.result l.out l.invariant.0 within c.digit.ensures l.invariant.1 l.invariant.4,
-      more_digits l.at l.rest c.digit.result l.out l.invariant.0 within c.digit.ensures _ c.if-rest-eq0.false l.invariant.5,
+      zeros_stay l.at l.rest c.digit.result l.out l.invariant.0 within c.digit.ensures.glyph l.invariant.1
+          l.invariant.4,
+      more_digits l.at l.rest c.digit.result l.out l.invariant.0 within c.digit.ensures.glyph _ c.if-rest-eq0.false
+          l.invariant.5,
     )

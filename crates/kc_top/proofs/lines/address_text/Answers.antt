@@ -6,6 +6,7 @@ use Rattle.kc_top.proofs.lines.address_text.Goals as goal
 -- the hole writes the digits under its options
 pub returns : goal.returns
 returns c =
-    let hole : styled_digits_output c.in_radix.result c.laid_out.result ≡ Some (padded_integral (format_spec 32 0 4 16 (2 ^ 64 - 1)) false [] (digits 16 false c.args.address))
+    let hole : styled_digits_output c.in_radix.result c.laid_out.result ≡ Some
+    (padded_integral (format_spec 32 0 4 16 (2 ^ 64 - 1)) false [] (digits 16 false c.args.address))
     = rw c.laid_out.ensures (rw c.in_radix.ensures refl) in
     rw hole at c.in_ok-format.ensures.ok ∙ ap (λ t. 48 ∷ 120 ∷ t) (padded_hex c.args.address)

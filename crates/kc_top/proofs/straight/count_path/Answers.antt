@@ -10,5 +10,6 @@ loop-insn-preserved c =
       within = omega (arith, c.in-Some.ensures.within, c.length_of-at.ensures);
       counted = omega (arith, length_of-some c.in-Some.insn, c.length_of-at.ensures);
       path = rw c.length_of-at.ensures (c.loop-insn.invariant.path
-          ∙ moved-step c.loop-insn.at c.loop-insn.count c.args.bytes.now c.in-Some.insn (sym c.in-Some.ensures.value) goes_on);
+          ∙ moved-step c.loop-insn.at c.loop-insn.count c.args.bytes.now c.in-Some.insn (sym c.in-Some.ensures.value)
+          goes_on);
     }

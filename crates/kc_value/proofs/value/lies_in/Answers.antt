@@ -11,7 +11,15 @@ pub returns-then-set-s-eq1 : goal.returns-then-set-s-eq1
 returns-then-set-s-eq1 c =
     let stacks = c.args.stacks.now in
     let read : c.index-stacks-s.result ≡ stack_at stacks c.loop-s.s =
-    c.index-stacks-s.is ∙ get_or_default stacks c.loop-s.s c.index-stacks-s.result no_addresses (omega (arith, c.type_inv.stacks, c.loop-s-test.true)) in
+    c.index-stacks-s.is ∙ get_or_default stacks c.loop-s.s c.index-stacks-s.result no_addresses
+    (omega (arith, c.type_inv.stacks, c.loop-s-test.true)) in
     let here = c.holds.ensures.0 c.if-holds.true in
-    let holds = subst (λ (r : Range). Holds r c.args.n) (sym c.index-stacks-s.is ∙ read) here in
-    (λ _. (Some c.loop-s.s, (c.loop-s-test.true, holds), sym (shr_and_one c.args.set c.loop-s.s) ∙ c.if-set-s-eq1.true), λ _. refl)
+    let holds = subst (λ (r : Range). Holds r c.args.n) (sym c.index-stacks-s.is ∙ read) here in (
+      λ _. (
+        Some c.loop-s.s,
+        (c.loop-s-test.true, holds),
+        sym (shr_and_one c.args.set c.loop-s.s)
+            ∙ c.if-set-s-eq1.true,
+      ),
+      λ _. refl,
+    )

@@ -3,7 +3,8 @@ use Rattle.kc_bits.proofs.bits.Bits.and.Goals as goal
 
 pub invariant_of-result : goal.invariant_of-result
 invariant_of-result c =
-    and_apart (record { zeros = c.self.inside.zeros; ones = c.self.inside.ones }) (record { zeros = c.other.inside.zeros; ones = c.other.inside.ones })
+    and_apart (record { zeros = c.self.inside.zeros; ones = c.self.inside.ones })
+    (record { zeros = c.other.inside.zeros; ones = c.other.inside.ones })
     c.self.invariant c.other.invariant
 
 pub returns-clause-sound : goal.returns-clause-sound

@@ -17,5 +17,6 @@ returns c =
     record {
       value = value;
       sound = λ a h. subst (λ (r : KnownBits). StandsFor r a) (sym value) (prefix_sound span c.requires fits a h);
-      exact = λ i k e. prefix_exact span c.requires fits i k (subst (λ (r : KnownBits). bit_at (unknown r) i ≡ 1) value e);
+      exact = λ i k e. prefix_exact span c.requires fits i k
+          (subst (λ (r : KnownBits). bit_at (unknown r) i ≡ 1) value e);
     }

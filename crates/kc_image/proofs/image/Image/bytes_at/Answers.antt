@@ -20,10 +20,14 @@ returns-in_default-clause-bytes c =
 pub returns-clause-count : goal.returns-clause-count
 returns-clause-count c =
     let end : c.loop-n.n ≡ 15 = omega (arith, c.loop-n-test.false, c.loop-n.auto.n-end) in
-    sym end ∙ (run_full c.args.self.now.segments c.args.a c.loop-n.at c.loop-n.n c.args.buf.now c.loop-n.buf end c.loop-n.invariant).count
+    let segments = c.args.self.now.segments in
+    sym end
+    ∙ (run_full segments c.args.a c.loop-n.at c.loop-n.n c.args.buf.now c.loop-n.buf end c.loop-n.invariant).count
 
 pub returns-clause-bytes : goal.returns-clause-bytes
 returns-clause-bytes c =
     let end : c.loop-n.n ≡ 15 = omega (arith, c.loop-n-test.false, c.loop-n.auto.n-end) in
-    let written = run_full c.args.self.now.segments c.args.a c.loop-n.at c.loop-n.n c.args.buf.now c.loop-n.buf end c.loop-n.invariant in
+    let segments = c.args.self.now.segments in
+    let written =
+    run_full segments c.args.a c.loop-n.at c.loop-n.n c.args.buf.now c.loop-n.buf end c.loop-n.invariant in
     rw end at written.bytes

@@ -25,6 +25,7 @@ returns-in-Some-clause-inside c = λ some.
       | inl t ↦ omega (arith, ltb-true c.args.a to t, c.place.ranges)
       | inr f ↦
           let result : then_some (ltb c.args.a to) c.in-Some.place ≡ None = rw f refl in
-          let nothing : IsSome {T = Place} None = subst (λ (o : Option Place). IsSome o) (c.then_some.ensures ∙ result) some in
+          let nothing : IsSome {T = Place} None =
+          subst (λ (o : Option Place). IsSome o) (c.then_some.ensures ∙ result) some in
           absurd (true≢false (sym nothing))
     ]

@@ -19,4 +19,5 @@ returns-in-Some c =
 pub returns-in-None : goal.returns-in-None
 returns-in-None c =
     let span : Range = record { from = c.span.inside.from; to = c.span.inside.to } in
-    rw (← c.span.view_is, ← c.self.view_is) (meets_any_before _ _ span c.self.invariant c.if-span.false c.in-None.ensures)
+    rw (← c.span.view_is, ← c.self.view_is)
+    (meets_any_before _ _ span c.self.invariant c.if-span.false c.in-None.ensures)

@@ -6,6 +6,7 @@ use Rattle.kc_value.proofs.value.ValueDomain.join.Goals as goal
 
 pub invariant_of-self : goal.invariant_of-self
 invariant_of-self c = (
-  subst IsSym (sym c.joined-self-inside.ensures) (sym_joined_fits c.self.inside.sym c.other.inside.sym c.self.invariant.0),
+  subst IsSym (sym c.joined-self-inside.ensures)
+      (sym_joined_fits c.self.inside.sym c.other.inside.sym c.self.invariant.0),
   or_lt 17 c.self.inside.stacks c.other.inside.stacks c.self.invariant.1 c.other.invariant.1,
 )
