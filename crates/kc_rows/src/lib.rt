@@ -16,6 +16,8 @@ mod insn;
 #[cfg(test)]
 mod plain;
 #[cfg(test)]
+mod regions;
+#[cfg(test)]
 mod runner;
 #[cfg(test)]
 mod samples;

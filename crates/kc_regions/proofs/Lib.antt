@@ -1,0 +1,4 @@
+pub mod OrderLemmas
+pub mod CrossLemmas
+pub mod CheckLemmas
+pub mod LayoutLemmas

@@ -1,0 +1,12 @@
+pub mod Each
+pub mod Region
+pub mod Regions
+pub mod Order
+pub mod Description
+pub mod Lookup
+pub mod Ranges
+pub mod CrossRules
+pub mod CrossTests
+pub mod Valid
+pub mod Permission
+pub mod Layout
