@@ -6,6 +6,8 @@ mod bits;
 #[cfg(test)]
 mod check;
 #[cfg(test)]
+mod config;
+#[cfg(test)]
 mod decode;
 #[cfg(test)]
 mod encode;

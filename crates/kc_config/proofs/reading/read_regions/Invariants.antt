@@ -1,0 +1,17 @@
+use Rattle.std.proofs.Common.{◌≡◌, drop, length, All}
+use Rattle.kc_regions.specs.Ranges.{IsRegionInRange}
+use Rattle.kc_config.specs.declared.path.Place.TheVariants.{InRegion}
+use Rattle.kc_config.specs.Tables.{region}
+use Rattle.kc_config.specs.Reading.{add_table, each}
+use Rattle.kc_config.specs.Seen.{tables_of}
+use Rattle.kc_rules.specs.Rules.{over}
+use Rattle.kc_config.proofs.reading.read_regions.Given as goal
+
+-- what the tables left add to what was read is what all tables give; what was read is in its range
+abbrev pub invariant-loop-i : goal.invariant-loop-i
+invariant-loop-i l = record {
+  read : over (add_table region InRegion l.image.symbols) l.regions.items (tables_of (drop l.i l.tables))
+      ≡ each region InRegion l.image.symbols (tables_of l.tables);
+  count : length l.regions.items ≡ l.i;
+  in_range : All IsRegionInRange l.regions.items;
+}

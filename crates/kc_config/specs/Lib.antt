@@ -1,0 +1,9 @@
+pub mod Paths
+pub mod Addresses
+pub mod Faults
+pub mod Keys
+pub mod Tables
+pub mod Reading
+pub mod Seen
+pub mod Allowed
+pub mod Described
