@@ -16,6 +16,8 @@ mod images;
 #[cfg(test)]
 mod insn;
 #[cfg(test)]
+mod memory;
+#[cfg(test)]
 mod plain;
 #[cfg(test)]
 mod regions;
