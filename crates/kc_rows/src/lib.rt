@@ -12,6 +12,8 @@ mod decode;
 #[cfg(test)]
 mod encode;
 #[cfg(test)]
+mod exec;
+#[cfg(test)]
 mod images;
 #[cfg(test)]
 mod insn;

@@ -1,0 +1,10 @@
+//! Cases of the model from outside this repository, in the form in which files and tables write them.
+#![tactic(auto)]
+
+mod exec_case;
+mod lines;
+mod states;
+
+pub use exec_case::ExecCase;
+pub use lines::{hex_bytes, number};
+pub use states::Processor;

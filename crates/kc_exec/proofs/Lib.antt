@@ -1,0 +1,4 @@
+pub mod StoreLemmas
+pub mod GuardLemmas
+pub mod ReadsLemmas
+pub mod EndLemmas

@@ -1,0 +1,10 @@
+pub mod Moment
+pub mod Register
+pub mod RFlags
+pub mod Operand
+pub mod Change
+pub mod Effect
+pub mod Breaks
+pub mod Execution
+pub mod Live
+pub mod Admitted
