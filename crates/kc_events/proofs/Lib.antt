@@ -1,0 +1,3 @@
+pub mod FetchLemmas
+pub mod RangeLemmas
+pub mod ChainLemmas
