@@ -1,0 +1,7 @@
+pub mod ClobberSets
+pub mod Floors
+pub mod Slots
+pub mod Clobber
+pub mod FloorsLaws
+pub mod SlotsLaws
+pub mod ClobberLaws

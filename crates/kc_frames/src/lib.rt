@@ -1,0 +1,16 @@
+//! What is known of the stacks' live bytes, of tracked memory words, and of what events may write.
+#![tactic(auto)]
+
+mod clobber;
+mod floor;
+mod floors;
+mod redo;
+mod slots;
+#[cfg(test)]
+mod tests;
+
+pub use clobber::Clobber;
+pub use floor::Floor;
+pub use floors::Floors;
+pub use redo::Change;
+pub use slots::Slots;

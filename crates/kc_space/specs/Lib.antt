@@ -1,0 +1,4 @@
+pub mod Spaces
+pub mod Latches
+pub mod SpacesLaws
+pub mod LatchesLaws

@@ -1,0 +1,4 @@
+pub mod AccessLemmas
+pub mod ShiftLemmas
+pub mod SlotLemmas
+pub mod StackLemmas

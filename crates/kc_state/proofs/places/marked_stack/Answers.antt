@@ -1,0 +1,9 @@
+use Rattle.std.proofs.Common.{rules, tests}
+use Rattle.std.proofs.lemmas.Iterator.{YieldsList-from_slice}
+use Rattle.std.proofs.lemmas.Iterator.Consumers.{nth_from_yields_List, YieldsList-from_filter}
+use Rattle.kc_state.proofs.places.marked_stack.Goals as goal
+
+pub returns : goal.returns
+returns c =
+    let stacks = YieldsList-from_filter _ _ (YieldsList-from_slice c.args.regions.now cc) c.filter.ensures.closure (λ x r q k. search (rules, tests)) in
+    nth_from_yields_List _ _ _ c.nth.ensures.ran (YieldsList-from_filter _ _ stacks c.filter-2.ensures.closure (λ x r q k. search (rules, tests)))

@@ -1,0 +1,11 @@
+use Rattle.std.proofs.Common.{sym, subst}
+use Rattle.kc_regions.specs.Description.{Description}
+use Rattle.kc_value.specs.Made.{IsPlace}
+use Rattle.kc_state.proofs.StackLemmas.{is_place}
+use Rattle.kc_state.proofs.shifts.derived.Goals as goal
+
+pub derived-requires : goal.derived-requires
+derived-requires c =
+    let parts = c.cfg.inside in
+    let d : Description = record { cpu = parts.cpu; regions = parts.regions; gates = parts.gates; handlers = parts.handlers; words = parts.words } in
+    subst IsPlace (sym c.stack_of.ensures) (is_place d c.in-Some.n c.cfg.invariant)

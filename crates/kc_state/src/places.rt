@@ -1,0 +1,118 @@
+//! Where values point and where the tracked words lie, this project's own.
+
+ghost use Rattle.std.specs.Prelude.{◌≡◌, ◌<◌, ◌≤◌, Some, option_copied, slice_get};
+ghost use Rattle.kc_regions.specs.Region.{marked_of};
+ghost use Rattle.kc_bits.specs.Bits.{word};
+ghost use Rattle.kc_regions.specs.Lookup.{tss_word};
+ghost use Rattle.kc_state.specs.Places.{location_stack, is_interrupted_rsp, value_stack, home_stack, tracked_word, base_word, marked_word, word_of};
+
+use crate::key::Key;
+use crate::location::{Location, loc};
+use kc_regions::{Config, Region};
+use kc_value::{Sym, Value};
+
+/// The stack in which `v` points in a context with this key: that of the key for the interrupted RSP
+/// and for an offset, and else the one that holds the number, if it is known.
+pub fn place(cfg: &Config, key: &Key, v: &Value) -> Option<u8>
+    ensures value { result ≡ value_stack cfg.now key.now v.now }
+{
+    if let Sym::Entry(4) = v.sym {
+        return key.stack;
+    }
+    match loc(key, v) {
+        Some(l) => stack_at(cfg, key, l),
+        None => None,
+    }
+}
+
+/// The stack of a location: that of the key for an offset, and else the one that holds the number.
+pub fn stack_at(cfg: &Config, key: &Key, l: Location) -> Option<u8>
+    ensures value { result ≡ location_stack cfg.now key.now (Some l) }
+{
+    match l {
+        Location::Relative(_) => key.stack,
+        Location::Number(a) => cfg.regions.stack_of(a),
+    }
+}
+
+/// The stack on which the frame of an event with this key stands; none for SYSCALL.
+pub fn home(cfg: &Config, key: &Key) -> Option<u8>
+    ensures value { result ≡ home_stack cfg.now key.now }
+{
+    match key.base {
+        Some(base) => cfg.regions.stack_of(base.wrapping_sub(8)),
+        None if key.syscall => None,
+        None => key.stack,
+    }
+}
+
+/// The word of slot `i` in a context with this key; none where the slot stands for no word.
+pub fn word_of(cfg: &Config, key: &Key, i: u16) -> Option<Location>
+    requires { i < 296 }
+    ensures value { result ≡ word_of cfg.now key.now i }
+{
+    if i < 8 {
+        Some(Location::Number(tss_address(cfg.cpu.tss, i)))
+    } else if i < 40 {
+        tracked(cfg, i - 8)
+    } else if i < 104 {
+        below_base(key, i - 39)
+    } else {
+        below_top(cfg, (i - 104) / 64, (i - 104) % 64 + 1)
+    }
+}
+
+// Where the TSS at `tss` holds RSP0 (0) or an IST (1 to 7).
+fn tss_address(tss: u64, n: u16) -> u64
+    requires { n < 8 }
+    ensures { result ≡ word (tss_word tss n) }
+{
+    if n == 0 {
+        tss.wrapping_add(4)
+    } else {
+        tss.wrapping_add(28 + 8 * u64::from(n))
+    }
+}
+
+fn tracked(cfg: &Config, n: u16) -> Option<Location>
+    ensures { result ≡ tracked_word cfg.now n }
+{
+    match cfg.words.get(usize::from(n)) {
+        Some(w) => Some(Location::Number(w.at)),
+        None => None,
+    }
+}
+
+// The n-th word below the base.
+fn below_base(key: &Key, n: u16) -> Option<Location>
+    requires { n ≤ 64 }
+    ensures { result ≡ base_word key.now.base key.now.syscall n }
+{
+    match key.base {
+        Some(base) => Some(Location::Number(base.wrapping_sub(8 * u64::from(n)))),
+        None if key.syscall => None,
+        None => Some(Location::Relative(-8 * i64::from(n))),
+    }
+}
+
+// Marked stack `m`, counted in the order of the regions.
+pub(crate) fn marked_stack(regions: &[Region], m: usize) -> Option<&Region>
+    ensures { option_copied result ≡ slice_get (marked_of regions.now) m }
+{
+    regions
+        .iter()
+        .filter(|r| r.kind.is_stack())
+        .filter(|r| r.marked)
+        .nth(m)
+}
+
+// The n-th word below the top of marked stack `m`.
+fn below_top(cfg: &Config, m: u16, n: u16) -> Option<Location>
+    requires { n ≤ 64 }
+    ensures { result ≡ marked_word cfg.now m n }
+{
+    match marked_stack(cfg.regions.list(), usize::from(m)) {
+        Some(r) => Some(Location::Number(r.span.to.wrapping_sub(8 * u64::from(n)))),
+        None => None,
+    }
+}

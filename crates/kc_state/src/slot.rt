@@ -1,0 +1,212 @@
+//! Loads from and stores into the tracked words, this project's own.
+
+ghost use Rattle.std.specs.Prelude.{◌≡◌, ◌≤◌, ◌<◌, ◌*◌, ◌/◌, ◌^◌, Some};
+ghost use Rattle.kc_words.specs.Flags.{bits_of};
+ghost use Rattle.kc_frames.specs.Slots.{redone};
+ghost use Rattle.kc_state.specs.Memory.{distance, offset_in, bits_from, part_of, loaded, is_below, meets, meets_word, is_same_stack, is_marked_slot, hits, is_just, stored};
+ghost use Rattle.kc_state.specs.Places.{location_stack};
+
+use crate::key::Key;
+use crate::location::Location;
+use crate::places::{marked_stack, stack_at, word_of};
+use crate::shifts::derived;
+use kc_bits::Bits;
+use kc_frames::{Change, Slots};
+use kc_regions::Config;
+use kc_value::Value;
+use kc_words::Width;
+
+/// What is known of the bytes at `l`, as many as `width` has: by the least slot whose word holds them
+/// all. The whole word is the slot's value, and a part of it has its bits alone; without a slot nothing
+/// is known. The bits above them are 0.
+pub fn load(cfg: &Config, key: &Key, slots: &Slots<Value>, l: Location, width: Width) -> Value
+    ensures value { result ≡ loaded cfg.now key.now l (bits_of width / 8) slots.now }
+{
+    slots.whole();
+    let size = size_of(width);
+    for i in 0..296 {
+        if let Some(off) = offset_in(l, size, word_of(cfg, key, i)) {
+            return part_of(cfg, width, slots.get(i), off);
+        }
+    }
+    derived(cfg, &Bits { zeros: 0, ones: 0 }.cut(width))
+}
+
+fn size_of(width: Width) -> u8
+    ensures { result ≡ bits_of width / 8 }
+{
+    match width {
+        Width::Byte => 1,
+        Width::Long => 4,
+        Width::Quad => 8,
+    }
+}
+
+// How far `l` is above `w`, of the same kind.
+fn distance(l: Location, w: Location) -> Option<u64>
+    ensures { result ≡ distance l w }
+{
+    match (l, w) {
+        (Location::Number(a), Location::Number(b)) => Some(a.wrapping_sub(b)),
+        (Location::Relative(k), Location::Relative(j)) => {
+            Some(k.cast_unsigned().wrapping_sub(j.cast_unsigned()))
+        }
+        _ => None,
+    }
+}
+
+fn offset_in(l: Location, size: u8, w: Option<Location>) -> Option<u8>
+    requires { size ≤ 8 }
+    ensures { result ≡ offset_in l size w }
+{
+    match distance(l, w?) {
+        Some(off) if off <= u64::from(8 - size) => Some(off as u8),
+        _ => None,
+    }
+}
+
+fn part_of(cfg: &Config, width: Width, v: &Value, off: u8) -> Value
+    requires { off < 8 }
+    ensures { result ≡ part_of cfg.now (bits_of width / 8) v.now off }
+{
+    let bits = bits_from(&v.bits, off);
+    match width {
+        Width::Quad => *v,
+        Width::Long => derived(cfg, &bits.cut(Width::Long)),
+        Width::Byte => derived(cfg, &bits.cut(Width::Byte)),
+    }
+}
+
+// The bits from byte `off` on, moved down.
+fn bits_from(bits: &Bits, off: u8) -> Bits
+    requires { off < 8 }
+    ensures { result ≡ bits_from bits.now off }
+{
+    Bits {
+        zeros: bits.zeros >> (8 * off),
+        ones: bits.ones >> (8 * off),
+    }
+}
+
+/// Stores `v` into `size` bytes at `l`: a slot with just these bytes takes `v`, where they are 8, and
+/// each other one that they meet becomes the top. So do all slots of the base, where `l` is a number in
+/// the stack of a key without a base, and those below the top of the key's stack, where `l` is an offset.
+pub fn store(cfg: &Config, key: &Key, slots: &mut Slots<Value>, l: Location, size: u8, v: &Value)
+    ensures value { slots.new ≡ redone (stored cfg.now key.now l size v.now) 0 slots.old }
+{
+    slots.redo(&Stored {
+        cfg,
+        key,
+        l,
+        stack: stack_at(cfg, key, l),
+        size,
+        v: *v,
+    });
+}
+
+#[derive(Drop)]
+struct Stored<'a> {
+    cfg: &'a Config,
+    key: &'a Key,
+    l: Location,
+    stack: Option<u8>,
+    size: u8,
+    v: Value,
+    ghost its_stack: { stack ≡ location_stack cfg.now key.now (Some l) },
+}
+
+impl<'a> Change<Value> for Stored<'a> {
+    ghost changed = { λ s. stored s.cfg.now s.key.now s.l s.size s.v };
+
+    fn at(&self, i: u16, old: &Value) -> Value {
+        let w = word_of(self.cfg, self.key, i);
+        if is_just(self.l, self.size, w) {
+            self.v
+        } else if hits(
+            self.cfg,
+            self.key,
+            self.stack,
+            self.l,
+            u32::from(self.size),
+            i,
+        ) {
+            Value::top()
+        } else {
+            *old
+        }
+    }
+}
+
+/// Whether the `size` bytes at `l` are just this word.
+pub fn is_just(l: Location, size: u8, w: Option<Location>) -> bool
+    ensures value { result ≡ is_just l size w }
+{
+    match w {
+        Some(w) => size == 8 && distance(l, w) == Some(0),
+        None => false,
+    }
+}
+
+/// Whether a change of the `size` bytes at `l`, which belong to this stack, may change the word of slot
+/// `i`.
+pub fn hits(cfg: &Config, key: &Key, stack: Option<u8>, l: Location, size: u32, i: u16) -> bool
+    requires { i < 296 }
+    ensures value { result ≡ hits cfg.now key.now stack l size i }
+{
+    if meets_word(l, size, word_of(cfg, key, i)) {
+        return true;
+    }
+    match l {
+        Location::Number(_) => {
+            key.base.is_none() && is_same_stack(stack, key.stack) && 40 <= i && i < 104
+        }
+        Location::Relative(_) => is_marked_slot(cfg, key.stack, i),
+    }
+}
+
+fn meets_word(l: Location, size: u32, w: Option<Location>) -> bool
+    ensures { result ≡ meets_word l size w }
+{
+    match w {
+        Some(w) => meets(l, size, w),
+        None => false,
+    }
+}
+
+// Whether the bytes, if there are any, and those of the word have one in common.
+fn meets(l: Location, size: u32, w: Location) -> bool
+    ensures { result ≡ meets l size w }
+{
+    size != 0 && (is_within(distance(l, w), 8) || is_within(distance(w, l), size))
+}
+
+fn is_within(distance: Option<u64>, size: u32) -> bool
+    ensures { result ≡ is_below size distance }
+{
+    match distance {
+        Some(n) => n < u64::from(size),
+        None => false,
+    }
+}
+
+fn is_same_stack(one: Option<u8>, other: Option<u8>) -> bool
+    ensures { result ≡ is_same_stack one other }
+{
+    match (one, other) {
+        (Some(s), Some(t)) => s == t,
+        _ => false,
+    }
+}
+
+fn is_marked_slot(cfg: &Config, stack: Option<u8>, i: u16) -> bool
+    requires { i < 296 }
+    ensures { result ≡ is_marked_slot cfg.now stack i }
+{
+    if i < 104 {
+        return false;
+    }
+    match marked_stack(cfg.regions.list(), usize::from((i - 104) / 64)) {
+        Some(r) => is_same_stack(cfg.regions.stack_of(r.span.to.wrapping_sub(1)), stack),
+        None => false,
+    }
+}
