@@ -1,0 +1,30 @@
+//! Compares this repository's calls with cases from outside: `bench_vectors KIND FILE` reads a file of
+//! cases, prints each that differs, and last how many agree.
+#![tactic(auto)]
+
+mod config_cases;
+mod domain_cases;
+mod exec_cases;
+mod forms;
+mod lines;
+
+use std::{env, fs, io};
+
+fn main(rt: HostRuntime) -> io::Result<()> {
+    let mut words = env::args(&rt)?;
+    let _program = words.next();
+    let (Some(kind), Some(path)) = (words.next(), words.next()) else {
+        println!(rt; "usage: bench_vectors KIND FILE")?;
+        return Ok(());
+    };
+    let text = fs::read_to_string(&rt, path.as_str())?;
+    match kind.as_str() {
+        "config" => config_cases::run(&rt, path.as_str(), text.as_str()),
+        "exec" => exec_cases::run(&rt, path.as_str(), text.as_str()),
+        "domains" => domain_cases::run(&rt, text.as_str()),
+        _ => {
+            println!(rt; "unknown kind {kind}")?;
+            Ok(())
+        }
+    }
+}
