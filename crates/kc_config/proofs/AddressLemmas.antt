@@ -12,7 +12,8 @@ use Rattle.kc_config.proofs.ArrayLemmas.{every_length}
 pub as_many : (sums : List Sum) (forms : List Spelling) (symbols : List (List ℕ × ℕ))
     → Some (map sum sums) ≡ every (meant symbols) (map spelled forms) → length sums ≡ length forms
 as_many sums forms symbols found =
-    sym (length-map sums sum) ∙ every_length (meant symbols) (map spelled forms) (map sum sums) (sym found) ∙ length-map forms spelled
+    sym (length-map sums sum) ∙ every_length (meant symbols) (map spelled forms) (map sum sums) (sym found)
+    ∙ length-map forms spelled
 
 none_below : (m : ℕ) → All (λ n. n < m) []
 none_below m k d h = absurd (omega (arith, h))
@@ -21,5 +22,7 @@ pub seven_below : (m a b c d e f g : ℕ) → a < m → b < m → c < m → d < 
     → All (λ n. n < m) (a ∷ b ∷ c ∷ d ∷ e ∷ f ∷ g ∷ [])
 seven_below m a b c d e f g ha hb hc hd he hf hg =
     let P : ℕ → Type 0 = λ n. n < m in
-    All-cons P a (b ∷ c ∷ d ∷ e ∷ f ∷ g ∷ []) ha (All-cons P b (c ∷ d ∷ e ∷ f ∷ g ∷ []) hb (All-cons P c (d ∷ e ∷ f ∷ g ∷ []) hc
-    (All-cons P d (e ∷ f ∷ g ∷ []) hd (All-cons P e (f ∷ g ∷ []) he (All-cons P f (g ∷ []) hf (All-cons P g [] hg (none_below m)))))))
+    All-cons P a (b ∷ c ∷ d ∷ e ∷ f ∷ g ∷ []) ha
+    (All-cons P b (c ∷ d ∷ e ∷ f ∷ g ∷ []) hb (All-cons P c (d ∷ e ∷ f ∷ g ∷ []) hc
+    (All-cons P d (e ∷ f ∷ g ∷ []) hd
+    (All-cons P e (f ∷ g ∷ []) he (All-cons P f (g ∷ []) hf (All-cons P g [] hg (none_below m)))))))

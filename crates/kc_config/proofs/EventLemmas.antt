@@ -10,12 +10,14 @@ use Rattle.kc_config.specs.Keys.{Section, array_of}
 use Rattle.kc_config.specs.Tables.{events, is_event}
 use Rattle.kc_config.proofs.ArrayLemmas.{list_any-map}
 
-pub events_out : (at : Section) (texts : List (Bor (List ℕ))) → array_of as_str at (codes "events") ≡ Ok (map (λ t. t.now) texts)
+pub events_out : (at : Section) (texts : List (Bor (List ℕ))) → array_of as_str at (codes "events")
+    ≡ Ok (map (λ t. t.now) texts)
     → list_all (λ t. is_event t.now) texts ≡ false → events at ≡ Err (OutOfRange (path at.place (codes "events")))
 unfolding events
 events_out at texts found none = rw (found, list_all-map is_event (λ (t : Bor (List ℕ)). t.now) texts, none) refl
 
-pub events_in : (at : Section) (texts : List (Bor (List ℕ))) (irq debug fault : Bool) → array_of as_str at (codes "events") ≡ Ok (map (λ t. t.now) texts)
+pub events_in : (at : Section) (texts : List (Bor (List ℕ))) (irq debug fault : Bool)
+    → array_of as_str at (codes "events") ≡ Ok (map (λ t. t.now) texts)
     → list_all (λ t. is_event t.now) texts ≡ true
     → irq ≡ list_any (λ t. bytes_eq t.now (codes "irq")) texts
     → debug ≡ list_any (λ t. bytes_eq t.now (codes "debug")) texts

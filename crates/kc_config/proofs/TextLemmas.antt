@@ -39,7 +39,8 @@ pub value_bound : (n : ℕ) (ds : List ℕ) → AllDigits 16 ds → digits_value
 value_bound n [] h = omega arith
 value_bound n (c ∷ cs) h =
     let p = 16 ^ length cs in
-    let below : digits_value_after 16 (n * 16 + digit_value c) cs < (n * 16 + digit_value c + 1) * p = value_bound (n * 16 + digit_value c) cs h.1 in
+    let below : digits_value_after 16 (n * 16 + digit_value c) cs < (n * 16 + digit_value c + 1) * p =
+    value_bound (n * 16 + digit_value c) cs h.1 in
     let step : (n * 16 + digit_value c + 1) * p ≤ (n + 1) * (p * 16) = step_bound n (digit_value c) p h.0 in
     let last : digits_value_after 16 (n * 16 + digit_value c) cs < (n + 1) * (p * 16) = omega (arith, below, step) in
     rw (pow-suc 16 (length cs)) last
@@ -56,7 +57,8 @@ pub ok_from_iff : {T E : Type 0} (r : Result T E) (P : Type 0) (v : T) → OkIff
 ok_from_iff (Ok x) P v h p = search (rules, h)
 ok_from_iff (Err e) P v h p = search (rules, h, p)
 
-pub digits_parse : {E : Type 0} (ds : List ℕ) (r : Result ℕ E) → list_all is_ascii_hexdigit ds ≡ true → 1 ≤ length ds → length ds ≤ 16
+pub digits_parse : {E : Type 0} (ds : List ℕ) (r : Result ℕ E) → list_all is_ascii_hexdigit ds ≡ true → 1 ≤ length ds
+    → length ds ≤ 16
     → ParsesUnsigned 64 16 ds r → result_ok r ≡ Some (digits_value 16 ds)
 digits_parse {E} ds r all some short parsed =
     let digits = hex_digits ds all in
@@ -64,7 +66,8 @@ digits_parse {E} ds r all some short parsed =
     ok_from_iff r _ _ (subst P (no_sign ds all) parsed) ((omega arith, digits), value_fits ds digits short)
 
 -- where no byte passes the test, none is there
-none_step : (b any : Bool) (rest len : ℕ) → cond (not b) (1 + rest) 0 ≡ suc len → (rest ≡ len → any ≡ false) → (b || any) ≡ false
+none_step : (b any : Bool) (rest len : ℕ) → cond (not b) (1 + rest) 0 ≡ suc len → (rest ≡ len → any ≡ false)
+    → (b || any) ≡ false
 none_step true any rest len h more = absurd (omega (arith, h))
 none_step false any rest len h more = more (omega (arith, h))
 
@@ -81,7 +84,8 @@ pub plain_name : (text : List ℕ) → (length text == 0) ≡ false → position
 plain_name text filled none = rw (whole_text is_plus text none, filled, none_passes is_plus text none) refl
 
 -- where a byte passes the test before the end, one is there
-some_step : (b any : Bool) (rest len : ℕ) → cond (not b) (1 + rest) 0 < suc len → (rest < len → any ≡ true) → (b || any) ≡ true
+some_step : (b any : Bool) (rest len : ℕ) → cond (not b) (1 + rest) 0 < suc len → (rest < len → any ≡ true)
+    → (b || any) ≡ true
 some_step true any rest len h more = refl
 some_step false any rest len h more = more (omega (arith, h))
 
@@ -90,12 +94,15 @@ some_passes p [] h = absurd (omega (arith, h))
 some_passes p (c ∷ cs) h = some_step (p c) (list_any p cs) (position_or_len p cs) (length cs) h (some_passes p cs)
 
 -- a name, `+`, and then a number or nothing of that form
-pub name_and_number : (text name rest : List ℕ) (n : ℕ) → name ≡ before_first is_plus text → rest ≡ after_first is_plus text
-    → position_or_len is_plus text < length text → (length name == 0) ≡ false → Some n ≡ number_text rest → symbol_text text ≡ Some (symbol name n)
+pub name_and_number : (text name rest : List ℕ) (n : ℕ) → name ≡ before_first is_plus text
+    → rest ≡ after_first is_plus text
+    → position_or_len is_plus text < length text → (length name == 0) ≡ false → Some n ≡ number_text rest
+    → symbol_text text ≡ Some (symbol name n)
 name_and_number text name rest n front back within filled read =
     rw (← front, ← back, filled, some_passes is_plus text within, ← read) refl
 
 pub name_and_text : (text name rest : List ℕ) → name ≡ before_first is_plus text → rest ≡ after_first is_plus text
-    → position_or_len is_plus text < length text → (length name == 0) ≡ false → None ≡ number_text rest → symbol_text text ≡ None
+    → position_or_len is_plus text < length text → (length name == 0) ≡ false → None ≡ number_text rest
+    → symbol_text text ≡ None
 name_and_text text name rest front back within filled read =
     rw (← front, ← back, filled, some_passes is_plus text within, ← read) refl

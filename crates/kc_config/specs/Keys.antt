@@ -124,18 +124,23 @@ form_of d = option_and_then written (as_str d)
 -- the keys of each table
 abbrev pub known_keys : Place → List (List ℕ)
 known_keys AtTop = codes "version" ∷ codes "cpu" ∷ codes "region" ∷ codes "gate" ∷ codes "handler" ∷ codes "word" ∷ []
-known_keys InCpu = codes "kernel_gs" ∷ codes "kernel_cr3" ∷ codes "user_cr3" ∷ codes "idt" ∷ codes "gdt" ∷ codes "tss" ∷ codes "syscall"
-    ∷ codes "fmask" ∷ codes "star_kernel" ∷ codes "star_user" ∷ codes "user_cs32" ∷ codes "user_gs_writes" ∷ codes "rsp0" ∷ codes "ist" ∷ []
-known_keys (InRegion i) = codes "name" ∷ codes "at" ∷ codes "size" ∷ codes "kind" ∷ codes "user_map" ∷ codes "write" ∷ codes "exec"
+known_keys InCpu =
+    codes "kernel_gs" ∷ codes "kernel_cr3" ∷ codes "user_cr3" ∷ codes "idt" ∷ codes "gdt" ∷ codes "tss"
+    ∷ codes "syscall" ∷ codes "fmask" ∷ codes "star_kernel" ∷ codes "star_user" ∷ codes "user_cs32"
+    ∷ codes "user_gs_writes" ∷ codes "rsp0" ∷ codes "ist" ∷ []
+known_keys (InRegion i) =
+    codes "name" ∷ codes "at" ∷ codes "size" ∷ codes "kind" ∷ codes "user_map" ∷ codes "write" ∷ codes "exec"
     ∷ codes "may_fault" ∷ codes "quiet" ∷ codes "marked" ∷ []
 known_keys (InGate i) = codes "vector" ∷ codes "entry" ∷ codes "ist" ∷ codes "trap" ∷ codes "user" ∷ []
-known_keys (InHandler i) = codes "entry" ∷ codes "stack" ∷ codes "events" ∷ codes "after_if" ∷ codes "returns" ∷ codes "frame" ∷ []
+known_keys (InHandler i) =
+    codes "entry" ∷ codes "stack" ∷ codes "events" ∷ codes "after_if" ∷ codes "returns" ∷ codes "frame" ∷ []
 known_keys (InWord i) = codes "at" ∷ codes "value" ∷ []
 
 -- the first key, by the order of bytes, that the table may not have
 abbrev pub first_unknown : Place → Members → Option (List ℕ)
 first_unknown place no_members = None
-first_unknown place (member k d ms) = if list_any (bytes_eq k) (known_keys place) then first_unknown place ms else Some k
+first_unknown place (member k d ms) =
+    if list_any (bytes_eq k) (known_keys place) then first_unknown place ms else Some k
 
 abbrev pub unknown : Section → Option (List ℕ) → Result (Unit {0}) ConfigFault
 unknown at None = Ok tt

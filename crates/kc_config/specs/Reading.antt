@@ -26,13 +26,15 @@ abbrev pub section : List (List ℕ × ℕ) → Place → Members → Section
 section symbols place members = record { place = place; members = members; symbols = symbols }
 
 -- a table adds what it describes; its index is the number of those before it
-abbrev pub add_table : {A : Type 0} → (Section → Result A ConfigFault) → (ℕ → Place) → List (List ℕ × ℕ) → List A → Members → Result (List A) ConfigFault
+abbrev pub add_table : {A : Type 0} → (Section → Result A ConfigFault) → (ℕ → Place) → List (List ℕ × ℕ) → List A
+    → Members → Result (List A) ConfigFault
 add_table read place symbols earlier members = do
   x ← read (section symbols (place (length earlier)) members)
   Ok (earlier ++ x ∷ [])
 
 -- an array's tables in their order
-abbrev pub each : {A : Type 0} → (Section → Result A ConfigFault) → (ℕ → Place) → List (List ℕ × ℕ) → List Members → Result (List A) ConfigFault
+abbrev pub each : {A : Type 0} → (Section → Result A ConfigFault) → (ℕ → Place) → List (List ℕ × ℕ) → List Members
+    → Result (List A) ConfigFault
 each read place symbols tables = over (add_table read place symbols) [] tables
 
 -- what the tables describe: the top, then the processor, then each region, gate, handler and word

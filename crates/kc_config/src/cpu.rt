@@ -131,7 +131,8 @@ fn find_each(
     image: &Image,
     forms: &[Spelling<'_>],
 ) -> Result<Option<Vec<Sum>>, ConfigFault>
-    ensures { MatchResult result (λ r. option_map (λ v. map sum v.items) r ≡ every (meant image.now.symbols) (map spelled forms.now)) (λ e. e ≡ no_memory) }
+    ensures { MatchResult result (λ r. option_map (λ v. map sum v.items) r ≡ every (meant image.now.symbols)
+        (map spelled forms.now)) (λ e. e ≡ no_memory) }
 {
     let mut sums = Vec::new(alloc);
     for form in forms {

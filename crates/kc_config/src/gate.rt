@@ -42,7 +42,8 @@ fn read_gate_ist(table: &Reader<'_>) -> Result<u8, ConfigFault>
 
 /// The number of the gate's stack, 0 where there is none.
 fn read_optional_ist(table: &Reader<'_>) -> Result<u8, ConfigFault>
-    ensures read { Reads (λ n. n) result (or_default (seen table.now) (codes "ist") 0 (number_in (within 0 7) (seen table.now) (codes "ist"))) }
+    ensures read { Reads (λ n. n) result (or_default (seen table.now) (codes "ist") 0
+        (number_in (within 0 7) (seen table.now) (codes "ist"))) }
     ensures in_range { IfOk result (λ n. n ≤ 7) }
 {
     if table.has("ist") {

@@ -49,7 +49,8 @@ fn read_frame(table: &Reader<'_>) -> Result<u32, ConfigFault>
 
 /// Where the saved user words lie, where the handler may edit them.
 fn read_optional_frame(table: &Reader<'_>) -> Result<Option<u32>, ConfigFault>
-    ensures read { Reads (λ n. n) result (or_default (seen table.now) (codes "frame") None (some (number_in is_frame (seen table.now) (codes "frame")))) }
+    ensures read { Reads (λ n. n) result (or_default (seen table.now) (codes "frame") None
+        (some (number_in is_frame (seen table.now) (codes "frame")))) }
     ensures in_range { IfOk result (λ n. IfSome n IsFrame) }
 {
     if table.has("frame") {

@@ -232,7 +232,8 @@ fn find_unknown(place: Place, table: &Table) -> Option<&String>
 }
 
 fn find_key(place: Place, table: &Table) -> Option<&String>
-    ensures { option_copied result ≡ find (λ k. not (list_any (bytes_eq (string_bytes k)) (known_keys place))) (keys table.now) }
+    ensures { option_copied result ≡ find (λ k. not (list_any (bytes_eq (string_bytes k)) (known_keys place)))
+        (keys table.now) }
 {
     table.keys().find(|key| !is_key(place, key.as_str()))
 }

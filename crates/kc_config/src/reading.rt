@@ -112,7 +112,8 @@ fn read_handlers(
 
 /// The words of these tables.
 fn read_words(alloc: Global, image: &Image, tables: &[&Table]) -> Result<Vec<Word>, ConfigFault>
-    ensures read { Reads (λ v. v.items) result (each tracked_word Place.InWord image.now.symbols (tables_of tables.now)) }
+    ensures read { Reads (λ v. v.items) result (each tracked_word Place.InWord image.now.symbols
+        (tables_of tables.now)) }
     ensures in_range { IfOk result (λ v. All IsWordInRange v.items × (length v.items ≡ length tables.now)) }
 {
     let mut words = Vec::new(alloc);

@@ -58,7 +58,8 @@ fn read_optional<'a>(
     key: &str,
     most: usize,
 ) -> Result<Vec<&'a Table>, ConfigFault>
-    ensures read { Reads (λ v. tables_of v.items) result (or_default (seen table.now) key.now [] (tables (within 0 most) (seen table.now) key.now)) }
+    ensures read { Reads (λ v. tables_of v.items) result
+        (or_default (seen table.now) key.now [] (tables (within 0 most) (seen table.now) key.now)) }
     ensures count { IfOk result (λ v. length v.items ≤ most) }
 {
     if table.has(key) {

@@ -1,6 +1,7 @@
 -- The numbers in the chosen bytes, as the grammar reads them.
--- Each number is written in the bytes of its bits at 8, 32 or 64, and reads back as itself where it fits: std's to_z-of_z
--- and of_z-to_z. An immediate is written by its sign-extended form where that fits a byte. omega is left the ranges.
+-- Each number is written in the bytes of its bits at 8, 32 or 64, and reads back as itself where it fits: std's
+-- to_z-of_z and of_z-to_z. An immediate is written by its sign-extended form where that fits a byte. omega is left the
+-- ranges.
 use Rattle.std.proofs.Common.{◌≡◌, ℕ, ◌+◌, ◌-◌, ◌%◌, ◌^◌, ◌<◌, true, ltb, leb, [], ◌∷◌, ℤ, pos, negsuc, refl, sym, ap, ◌∙◌, arith}
 use Rattle.std.specs.Prelude.{FitsSigned, int_le}
 use Rattle.std.specs.Int.{w8, w32, w64, cast_signed, cast_unsigned, to_le_bytes}

@@ -11,11 +11,14 @@ newest-last (a ∷ []) = refl
 newest-last (a ∷ (b ∷ rest)) =
     let there : length (b ∷ rest) - 1 ≡ length rest = omega arith in
     let here : length (a ∷ (b ∷ rest)) - 1 ≡ suc (length rest) = omega arith in
-    newest-last (b ∷ rest) ∙ ap (λ (k : ℕ). slice_get (b ∷ rest) k) there ∙ sym (ap (λ (k : ℕ). slice_get (a ∷ (b ∷ rest)) k) here)
+    newest-last (b ∷ rest) ∙ ap (λ (k : ℕ). slice_get (b ∷ rest) k) there
+    ∙ sym (ap (λ (k : ℕ). slice_get (a ∷ (b ∷ rest)) k) here)
 
 -- whether it interrupted user code
-pub interrupted-by : (chain : List Activation) (a : Activation) → newest chain ≡ Some a → a.saved.mode ≡ User → InterruptedUser chain
+pub interrupted-by : (chain : List Activation) (a : Activation) → newest chain ≡ Some a → a.saved.mode ≡ User
+    → InterruptedUser chain
 interrupted-by chain a e h = subst (λ (o : Option Activation). IsSomeAnd o (λ x. x.saved.mode ≡ User)) (sym e) h
 
-pub interrupted-is : (chain : List Activation) (a : Activation) → newest chain ≡ Some a → InterruptedUser chain → a.saved.mode ≡ User
+pub interrupted-is : (chain : List Activation) (a : Activation) → newest chain ≡ Some a → InterruptedUser chain
+    → a.saved.mode ≡ User
 interrupted-is chain a e h = subst (λ (o : Option Activation). IsSomeAnd o (λ x. x.saved.mode ≡ User)) e h

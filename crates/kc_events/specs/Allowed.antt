@@ -1,6 +1,6 @@
--- Which turn may come in which state; one that may not come changes nothing. Of events: SDM vol. 3A, "Enabling and Disabling
--- Interrupts" and "Handling Multiple NMIs", and vol. 3B, "Machine-Check Architecture". Which exceptions kernel code raises,
--- and what a C handler may do, is this project's own.
+-- Which turn may come in which state; one that may not come changes nothing. Of events: SDM vol. 3A, "Enabling and
+-- Disabling Interrupts" and "Handling Multiple NMIs", and vol. 3B, "Machine-Check Architecture". Which exceptions
+-- kernel code raises, and what a C handler may do, is this project's own.
 use Rattle.std.specs.Prelude.{◌≡◌, ◌≢◌, ℕ, ◌+◌, ◌-◌, ◌%◌, ◌^◌, ◌<◌, ◌≤◌, Bool, true, false, not, ◌&&◌, ◌||◌, ◌==◌, nat_le, if◌then◌else◌, ◌⊎◌, List, [], ◌∷◌, All, Any, Option, Some, None, is_some, IsSomeAnd, IfSome, option_and_then, slice_get, slice_index, bit_and}
 use Rattle.std.specs.Int.{bit_at}
 use Rattle.kc_words.specs.Span.{Holds}
@@ -54,7 +54,8 @@ Promises cfg call Fact = IsSomeAnd (slice_get cfg.handlers call.handler) Fact
 abbrev pub IsNoisyText : Description → ℕ → Type 0
 IsNoisyText cfg a = IsSomeAnd (region_of cfg.regions a) (λ r. (r.kind ≡ kind.Text) × (r.quiet ≡ false))
 
--- Debug exceptions come in user code; in kernel code in a text region that isn't quiet; inside a handler that lists them.
+-- Debug exceptions come in user code; in kernel code in a text region that isn't quiet; inside a handler that lists
+-- them.
 abbrev pub TakesDebug : Description → ℕ → Mode → Type 0
 TakesDebug cfg rip User = Unit {0}
 TakesDebug cfg rip Code = IsNoisyText cfg rip
@@ -67,7 +68,8 @@ is_iretq _ = false
 -- the data accesses of the instruction; those of an IRETQ don't count, since its faults are left out
 abbrev pub faulting : Description → State → Option (Insn × ℕ) → List Access
 faulting cfg S None = []
-faulting cfg S (Some (insn, n)) = if is_iretq insn then [] else data_accesses (effect (moment cfg S.cpu S.latch S.mem.bytes n) insn)
+faulting cfg S (Some (insn, n)) =
+    if is_iretq insn then [] else data_accesses (effect (moment cfg S.cpu S.latch S.mem.bytes n) insn)
 
 -- the byte at a is one of the access's; addresses wrap at 2^64
 abbrev pub IsTouched : ℕ → Access → Type 0
@@ -77,8 +79,8 @@ IsTouched a access = (a + (2 ^ 64 - access.at)) % 2 ^ 64 < access.size
 abbrev pub MayFault : Description → ℕ → Type 0
 MayFault cfg a = IsSomeAnd (region_of cfg.regions a) (λ r. r.may_fault ≡ true)
 
--- A page fault at a comes in user code; in kernel code where the instruction touches the byte, and it lies in a region where
--- faults may come; inside a handler that lists them.
+-- A page fault at a comes in user code; in kernel code where the instruction touches the byte, and it lies in a region
+-- where faults may come; inside a handler that lists them.
 abbrev pub TakesFault : Description → Option (Insn × ℕ) → State → ℕ → Mode → Type 0
 TakesFault cfg found S a User = Unit {0}
 TakesFault cfg found S a Code = MayFault cfg a × Any (IsTouched a) (faulting cfg S found)
@@ -179,13 +181,14 @@ abbrev pub is_edit : Edit → Bool
 is_edit edit = is_some edit.rip || (is_some edit.flags || is_some edit.rsp)
 
 -- what a handler may leave after a step
-pub record MayBody (cfg : Description) (S : State) (call : Call) (h : Handler) (stack : Region) (b : BodySet) : Type 0 where
-  pub rsp : IsRspFree call.rsp h.stack (slice_index b.regs 4)
-  pub flags : AreModelFlags b.flags
-  pub interrupts : MaySetIf S.cpu.flags h.irq b.flags
-  pub writes : All (λ w. MayWrite cfg call h.stack stack w.0) b.writes
-  pub edits : AreEditsValid cfg b.edit
-  pub framed : is_edit b.edit ≡ true → HasFrame S call h stack
+pub record MayBody (cfg : Description) (S : State) (call : Call) (h : Handler) (stack : Region) (b : BodySet) : Type 0
+  where
+    pub rsp : IsRspFree call.rsp h.stack (slice_index b.regs 4)
+    pub flags : AreModelFlags b.flags
+    pub interrupts : MaySetIf S.cpu.flags h.irq b.flags
+    pub writes : All (λ w. MayWrite cfg call h.stack stack w.0) b.writes
+    pub edits : AreEditsValid cfg b.edit
+    pub framed : is_edit b.edit ≡ true → HasFrame S call h stack
 
 -- IF after the handler, as its contract says
 abbrev pub KeepsIf : AfterIf → ℕ → ℕ → Type 0
@@ -227,7 +230,8 @@ MayCome cfg found S (Fault a code) = TakesFault cfg found S a S.cpu.mode
 MayCome cfg found S (Trap v code) = MayTrap cfg S.cpu.mode v code
 MayCome cfg found S Syscall = MaySyscall cfg S.cpu
 MayCome cfg found S (UserTurn u) = MayUser cfg S u
-MayCome cfg found S (Body b) = InHandler cfg S.cpu.mode (λ call h. OfStack cfg call.rsp (λ stack. MayBody cfg S call h stack b))
+MayCome cfg found S (Body b) =
+    InHandler cfg S.cpu.mode (λ call h. OfStack cfg call.rsp (λ stack. MayBody cfg S call h stack b))
 MayCome cfg found S (Leave l) = InHandler cfg S.cpu.mode (λ call h. MayLeave call h l)
 
 -- the turn may come in the state, where `found` is the instruction at RIP; nothing comes in a stopped state

@@ -31,8 +31,8 @@ use Rattle.kc_events.specs.Turns.{after_syscall, user_cpu, body_cpu, after_leave
 use Rattle.kc_events.specs.Edits.{edited_words, with_edit}
 use Rattle.kc_events.specs.Delivery.{Delivered, delivered, with_pushed}
 
--- `chain` are the activations whose stack bytes are live while the turn's writes are judged; `accesses` are in their order;
--- `bytes` are addresses that are written besides, by a handler; `cpu` to `left` are what stands after the turn.
+-- `chain` are the activations whose stack bytes are live while the turn's writes are judged; `accesses` are in their
+-- order; `bytes` are addresses that are written besides, by a handler; `cpu` to `left` are what stands after the turn.
 pub record Attempt : Type 0 where
   pub accesses : List Access
   pub bytes : List ℕ
@@ -44,7 +44,15 @@ pub record Attempt : Type 0 where
 
 -- nothing happens
 abbrev pub idle : State → Attempt
-idle S = record { accesses = []; bytes = []; chain = S.chain; cpu = S.cpu; latch = S.latch; mem = S.mem.bytes; left = S.chain }
+idle S = record {
+  accesses = [];
+  bytes = [];
+  chain = S.chain;
+  cpu = S.cpu;
+  latch = S.latch;
+  mem = S.mem.bytes;
+  left = S.chain;
+}
 
 -- ---- an instruction
 

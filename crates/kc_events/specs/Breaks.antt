@@ -1,4 +1,5 @@
--- The breaks B1 to B8, each a fact of a turn that may come in a state. What is judged, and in which order, is this project's own.
+-- The breaks B1 to B8, each a fact of a turn that may come in a state. What is judged, and in which order, is this
+-- project's own.
 use Rattle.std.specs.Prelude.{◌≡◌, ◌≢◌, ℕ, zero, suc, ◌+◌, ◌%◌, ◌^◌, ◌<◌, Bool, true, false, not, ◌⊎◌, List, [], ◌∷◌, Contains, Option, Some, None, IsSomeAnd, slice_index, take_while}
 use Rattle.kc_insn.specs.declared.insn.Insn.{Insn}
 use Rattle.kc_insn.specs.declared.insn.Insn.TheVariants.{Sysretq}

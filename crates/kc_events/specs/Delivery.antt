@@ -1,6 +1,6 @@
--- What the delivery of a vector does: SDM vol. 3A, "64-Bit Mode Stack Frame", "Stack Switching in IA-32e Mode", "Interrupt Stack
--- Table", "Flag Usage By Exception- or Interrupt-Handler Procedure". Which bytes of the IDT and the GDT it touches, in which
--- sizes and order, is this project's own.
+-- What the delivery of a vector does: SDM vol. 3A, "64-Bit Mode Stack Frame", "Stack Switching in IA-32e Mode",
+-- "Interrupt Stack Table", "Flag Usage By Exception- or Interrupt-Handler Procedure". Which bytes of the IDT and the
+-- GDT it touches, in which sizes and order, is this project's own.
 use Rattle.std.specs.Prelude.{ℕ, zero, suc, ◌+◌, ◌-◌, ◌*◌, ◌%◌, ◌^◌, Bool, true, false, ◌||◌, ◌==◌, cond, if◌then◌else◌, List, [], ◌∷◌, ◌++◌, map, length, option_map, Option, Some, None, bit_and}
 use Rattle.std.specs.Int.{w64, bit_not}
 use Rattle.kc_regions.specs.declared.touch.Touch.TheVariants.{Write as ForWrite}

@@ -1,5 +1,5 @@
--- What a handler's edit of the user's saved frame does: SDM vol. 3A, "64-Bit Mode Stack Frame", for the places of the words;
--- that handlers may edit them is this project's own.
+-- What a handler's edit of the user's saved frame does: SDM vol. 3A, "64-Bit Mode Stack Frame", for the places of the
+-- words; that handlers may edit them is this project's own.
 use Rattle.std.specs.Prelude.{ℕ, ◌+◌, List, [], ◌∷◌, ◌++◌, Option, Some, None}
 use Rattle.std.specs.Option.{unwrap_or}
 use Rattle.kc_regions.specs.Description.{Description}
@@ -16,7 +16,8 @@ edited_word at (Some word) = (at, word) ∷ []
 
 -- The edited words with their addresses: RIP where the saved RIP lies, RFLAGS 16 and RSP 24 bytes above it.
 abbrev pub edited_words : ℕ → Edit → List (ℕ × ℕ)
-edited_words at edit = edited_word at edit.rip ++ (edited_word (plus at 16) edit.flags ++ edited_word (plus at 24) edit.rsp)
+edited_words at edit =
+    edited_word at edit.rip ++ (edited_word (plus at 16) edit.flags ++ edited_word (plus at 24) edit.rsp)
 
 -- the processor that a return restores, with the edited words
 abbrev pub edited_cpu : Edit → Cpu → Cpu

@@ -6,7 +6,8 @@ use Rattle.kc_image.specs.Image.{Contents, run}
 
 -- the n loaded bytes from address a on spell the instruction there
 abbrev pub IsSpelledAt : Contents → ℕ → Insn → ℕ → Type 0
-IsSpelledAt image a insn n = (bytes : List ℕ) × (length bytes ≡ n) × (run image.segments a n ≡ bytes) × Spells bytes a insn
+IsSpelledAt image a insn n =
+    (bytes : List ℕ) × (length bytes ≡ n) × (run image.segments a n ≡ bytes) × Spells bytes a insn
 
 -- the instruction at address a and the number of its bytes; none where no bytes from there on spell one
 abbrev pub IsAt : Contents → ℕ → Option (Insn × ℕ) → Type 0

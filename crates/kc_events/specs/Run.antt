@@ -50,7 +50,8 @@ halted S = record S { stopped = true }
 pub data Steps (cfg : Description) (image : Contents) (S : State) (turn : Turn) (T : State) : Type 0 where
   Refused : (found : Option (Insn × ℕ)) → IsAt image S.cpu.rip found → ¬ IsAllowed cfg found S turn → IsLike T S
       → Steps cfg image S turn T
-  Halted : Stops cfg image S turn ⊎ ((b : ℕ) × Breaks cfg image S turn b) → IsLike T (halted S) → Steps cfg image S turn T
+  Halted : Stops cfg image S turn ⊎ ((b : ℕ) × Breaks cfg image S turn b) → IsLike T (halted S)
+      → Steps cfg image S turn T
   Done : (found : Option (Insn × ℕ)) → IsAt image S.cpu.rip found → IsAllowed cfg found S turn
       → ¬ Stops cfg image S turn → ((b : ℕ) → ¬ Breaks cfg image S turn b)
       → IsLike T (after S (attempt cfg found S turn)) → Steps cfg image S turn T

@@ -1,4 +1,5 @@
--- What SYSCALL does (SDM vol. 2, "SYSCALL"), and what the turns of user code and of C handlers leave: this project's own.
+-- What SYSCALL does (SDM vol. 2, "SYSCALL"), and what the turns of user code and of C handlers leave: this project's
+-- own.
 use Rattle.std.specs.Prelude.{ℕ, ◌+◌, ◌%◌, ◌^◌, true, false, List, [], ◌∷◌, Option, Some, None, bit_and, slice_set, slice_index}
 use Rattle.std.specs.Option.{option_map_or}
 use Rattle.std.specs.Int.{w64, bit_not}
@@ -13,8 +14,8 @@ use Rattle.kc_events.specs.declared.turn.UserSet.{UserSet}
 use Rattle.kc_events.specs.declared.turn.BodySet.{BodySet}
 use Rattle.kc_events.specs.declared.turn.LeaveSet.{LeaveSet}
 
--- "SYSCALL": RCX := RIP, the address after it; RIP := IA32_LSTAR; R11 := RFLAGS; RFLAGS := RFLAGS AND NOT(IA32_FMASK); CS and SS
--- from IA32_STAR. RSP stays.
+-- "SYSCALL": RCX := RIP, the address after it; RIP := IA32_LSTAR; R11 := RFLAGS; RFLAGS := RFLAGS AND NOT(IA32_FMASK);
+-- CS and SS from IA32_STAR. RSP stays.
 abbrev pub after_syscall : Description → Cpu → Cpu
 after_syscall cfg cpu = record (with_register rcx cpu.rip (with_register r11 cpu.flags cpu)) {
   rip = cfg.cpu.syscall;
@@ -36,7 +37,8 @@ body_cpu cpu b = record cpu { regs = b.regs; rip = b.rip; flags = b.flags }
 abbrev pub given_back : Call → List ℕ → List ℕ
 given_back call regs =
     slice_set (slice_set (slice_set (slice_set (slice_set (slice_set (slice_set regs
-    3 (slice_index call.kept 0)) 5 (slice_index call.kept 1)) 12 (slice_index call.kept 2)) 13 (slice_index call.kept 3))
+    3 (slice_index call.kept 0)) 5 (slice_index call.kept 1)) 12 (slice_index call.kept 2)) 13
+    (slice_index call.kept 3))
     14 (slice_index call.kept 4)) 15 (slice_index call.kept 5)) 4 ((call.rsp + 8) % 2 ^ 64)
 
 -- the handler returns: the code after the call goes on
@@ -45,7 +47,8 @@ after_leave cpu call l = record cpu { regs = given_back call l.regs; rip = call.
 
 -- ---- the chain of activations, the newest last
 
--- the activation that the delivery of vector v makes, with the base from which its frame was pushed; and that of SYSCALL
+-- the activation that the delivery of vector v makes, with the base from which its frame was pushed; and that of
+-- SYSCALL
 abbrev pub made_by_event : Cpu → ℕ → ℕ → Activation
 made_by_event cpu v base = record { syscall = false; vector = v; saved = cpu; base = base; due = cpu }
 

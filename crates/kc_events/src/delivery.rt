@@ -284,7 +284,8 @@ fn deliver_through(
 ) -> DeliverEnd
     requires ist { gate.now.ist ≤ 7 }
     requires room { 48 ≤ mem.old.spare }
-    ensures end { let d = delivered cfg.now mem.old.bytes cpu.old latch.old gate.now code in result ≡ end_of_delivery cfg.now d }
+    ensures end { let d = delivered cfg.now mem.old.bytes cpu.old latch.old gate.now code in result
+        ≡ end_of_delivery cfg.now d }
     ensures accesses { let d = delivered cfg.now mem.old.bytes cpu.old latch.old gate.now code in log.new ≡ d.accesses }
     ensures processor { let d = delivered cfg.now mem.old.bytes cpu.old latch.old gate.now code in
         cpu.new ≡ cond (stops cfg.now d.accesses) cpu.old d.cpu }
@@ -323,8 +324,10 @@ pub fn deliver(
 ) -> DeliverEnd
     requires gate { IsSome (gate_of cfg.now.gates vector) }
     requires room { 48 ≤ mem.old.spare }
-    ensures end { IfSome (delivery cfg.now mem.old.bytes cpu.old latch.old vector code) (λ d. result ≡ end_of_delivery cfg.now d) }
-    ensures accesses { IfSome (delivery cfg.now mem.old.bytes cpu.old latch.old vector code) (λ d. log.new ≡ d.accesses) }
+    ensures end { IfSome (delivery cfg.now mem.old.bytes cpu.old latch.old vector code)
+        (λ d. result ≡ end_of_delivery cfg.now d) }
+    ensures accesses { IfSome (delivery cfg.now mem.old.bytes cpu.old latch.old vector code)
+        (λ d. log.new ≡ d.accesses) }
     ensures processor { IfSome (delivery cfg.now mem.old.bytes cpu.old latch.old vector code)
         (λ d. cpu.new ≡ cond (stops cfg.now d.accesses) cpu.old d.cpu) }
     ensures latches { IfSome (delivery cfg.now mem.old.bytes cpu.old latch.old vector code)

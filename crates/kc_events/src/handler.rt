@@ -186,7 +186,8 @@ fn may_set(
 
 /// Whether a handler runs that may leave this.
 pub(crate) fn may_body(cfg: &Config, state: &State, set: &BodySet) -> bool
-    ensures { IsTrue result ↔ InHandler cfg.now state.now.cpu.mode (λ call h. OfStack cfg.now call.rsp (λ stack. MayBody cfg.now state.now call h stack set.now)) }
+    ensures { IsTrue result ↔ InHandler cfg.now state.now.cpu.mode
+        (λ call h. OfStack cfg.now call.rsp (λ stack. MayBody cfg.now state.now call h stack set.now)) }
 {
     match &state.cpu.mode {
         Mode::User | Mode::Code => false,

@@ -15,7 +15,7 @@ const R11: usize = 11;
 /// The processor in the kernel's SYSCALL entry: RCX has RIP, the address after the instruction, and
 /// R11 has RFLAGS. RSP stays.
 pub fn enter_syscall(cfg: &Config, cpu: &Cpu) -> Cpu
-    ensures { result ≡ after_syscall cfg.now cpu.now }
+    ensures value { result ≡ after_syscall cfg.now cpu.now }
 {
     let mut after = *cpu;
     after.regs[R11] = cpu.flags;
@@ -30,7 +30,7 @@ pub fn enter_syscall(cfg: &Config, cpu: &Cpu) -> Cpu
 
 /// The processor that user code leaves; SS, the inactive GS base and CR3 stay.
 pub fn user_cpu(cpu: &Cpu, set: &UserSet) -> Cpu
-    ensures { result ≡ user_cpu cpu.now set.now }
+    ensures value { result ≡ user_cpu cpu.now set.now }
 {
     let regs = set.regs;
     let mut after = *cpu;
@@ -44,7 +44,7 @@ pub fn user_cpu(cpu: &Cpu, set: &UserSet) -> Cpu
 
 /// The processor that a handler's step leaves; CS, SS, the GS bases and CR3 stay.
 pub fn body_cpu(cpu: &Cpu, set: &BodySet) -> Cpu
-    ensures { result ≡ body_cpu cpu.now set.now }
+    ensures value { result ≡ body_cpu cpu.now set.now }
 {
     let regs = set.regs;
     let mut after = *cpu;
@@ -57,7 +57,7 @@ pub fn body_cpu(cpu: &Cpu, set: &BodySet) -> Cpu
 /// The processor after the handler's return: the code after the call goes on, with RBX, RBP and R12
 /// to R15 as they were at the call.
 pub fn leave_cpu(cpu: &Cpu, call: &Call, set: &LeaveSet) -> Cpu
-    ensures { result ≡ after_leave cpu.now call.now set.now }
+    ensures value { result ≡ after_leave cpu.now call.now set.now }
 {
     let regs = set.regs;
     let mut after = *cpu;

@@ -1,5 +1,6 @@
--- How an instruction ends. No row of the table ends by a stop or a break, so a stop comes from a guard alone and a break
--- from `break_of` alone. By cases on the instruction for the first, on the guard test and the break for the others.
+-- How an instruction ends. No row of the table ends by a stop or a break, so a stop comes from a guard alone and a
+-- break from `break_of` alone. By cases on the instruction for the first, on the guard test and the break for the
+-- others.
 use Rattle.std.proofs.Common.{◌≡◌, ◌↔◌, ℕ, Bool, true, false, cond, IsTrue, List, [], Option, Some, None, sym, ◌∙◌, subst, refl, ◌==◌, ap}
 use Rattle.std.proofs.lemmas.Bool.{false≢true}
 use Rattle.kc_words.specs.declared.width.Width.{Width}
@@ -16,7 +17,8 @@ use Rattle.kc_exec.specs.Effect.{row, gs_base, kernel_gs_base, mcg_status, msr_n
 use Rattle.kc_exec.specs.Breaks.{break_of, judged, effect}
 use Rattle.kc_exec.specs.Execution.{is_done}
 
-done-operated : (m : Moment) (w : Width) (dest : Place) (reads : List Access) (flags : ℕ) (v : Option ℕ) → is_done (operated m w dest reads flags v).end ≡ true
+done-operated : (m : Moment) (w : Width) (dest : Place) (reads : List Access) (flags : ℕ) (v : Option ℕ)
+    → is_done (operated m w dest reads flags v).end ≡ true
 done-operated m w dest reads flags None = refl
 done-operated m w dest reads flags (Some v) = refl
 
@@ -27,11 +29,13 @@ done-if false e f p q = q
 done-msr : (m : Moment) (n v : ℕ) → is_done (with_msr m n v).end ≡ true
 done-msr m n v =
     let last = falls m m.cpu [] None in
-    let third = cond (n == mcg_status) (falls (record m { latch = record m.latch { mcip = false } }) m.cpu [] None) last in
+    let third = cond (n == mcg_status) (falls (record m { latch = record m.latch { mcip = false } }) m.cpu [] None)
+    last in
     let second = cond (n == kernel_gs_base) (falls m (record m.cpu { kgs = v }) [] None) third in
     done-if (n == gs_base) (falls m (record m.cpu { gs = v }) [] None) second refl
     (done-if (n == kernel_gs_base) (falls m (record m.cpu { kgs = v }) [] None) third refl
-    (done-if (n == mcg_status) (falls (record m { latch = record m.latch { mcip = false } }) m.cpu [] None) last refl refl))
+    (done-if (n == mcg_status) (falls (record m { latch = record m.latch { mcip = false } }) m.cpu [] None) last refl
+    refl))
 
 pub done-row : (m : Moment) (insn : Insn) → is_done (row m insn).end ≡ true
 unfolding row
@@ -76,29 +80,43 @@ not-forbidden : (e : ExecEnd) (n : ℕ) → is_done e ≡ true → e ≡ Forbidd
 not-forbidden e n h q = false≢true (subst (λ (x : ExecEnd). is_done x ≡ true) q h)
 
 -- with s for the guard test and b for the break
-pub stopped-where : (s : Bool) (b : Option ℕ) (done : Executed) (r : ExecEnd) → is_done done.end ≡ true → r ≡ cond s Stopped (judged b done).end → (r ≡ Stopped) ↔ IsTrue s
+pub stopped-where : (s : Bool) (b : Option ℕ) (done : Executed) (r : ExecEnd) → is_done done.end ≡ true
+    → r ≡ cond s Stopped (judged b done).end → (r ≡ Stopped) ↔ IsTrue s
 stopped-where true b done r h e = (λ _. refl, λ _. e)
 stopped-where false None done r h e = (λ q. absurd (not-stopped done.end h (sym e ∙ q)), λ t. absurd (false≢true t))
-stopped-where false (Some n) done r h e = (λ q. absurd (let k : Forbidden n ≡ Stopped = sym e ∙ q in cc), λ t. absurd (false≢true t))
+stopped-where false (Some n) done r h e =
+    (λ q. absurd (let k : Forbidden n ≡ Stopped = sym e ∙ q in cc), λ t. absurd (false≢true t))
 
-pub forbidden-where : (s : Bool) (b : Option ℕ) (done : Executed) (r : ExecEnd) (n : ℕ) → is_done done.end ≡ true → r ≡ cond s Stopped (judged b done).end
+pub forbidden-where : (s : Bool) (b : Option ℕ) (done : Executed) (r : ExecEnd) (n : ℕ) → is_done done.end ≡ true
+    → r ≡ cond s Stopped (judged b done).end
     → (r ≡ Forbidden n) ↔ (¬ IsTrue s × (b ≡ Some n))
-forbidden-where true b done r n h e = (λ q. absurd (let k : Stopped ≡ Forbidden n = sym e ∙ q in cc), λ p. absurd (p.0 refl))
-forbidden-where false None done r n h e =
-    (λ q. absurd (not-forbidden done.end n h (sym e ∙ q)), λ p. absurd (let k : ◌≡◌ {A = Option ℕ} None (Some n) = p.1 in cc))
+forbidden-where true b done r n h e =
+    (λ q. absurd (let k : Stopped ≡ Forbidden n = sym e ∙ q in cc), λ p. absurd (p.0 refl))
+forbidden-where false None done r n h e = (
+  λ q. absurd (not-forbidden done.end n h (sym e ∙ q)),
+  λ p. absurd (let k : ◌≡◌ {A = Option ℕ} None (Some n) =
+      p.1 in cc),
+)
 forbidden-where false (Some k) done r n h e = (
-  λ q. (λ t. absurd (false≢true t), let same : Forbidden k ≡ Forbidden n = sym e ∙ q in let number : k ≡ n = cc in ap (λ (x : ℕ). Some x) number),
+  λ q. (
+    λ t. absurd (false≢true t),
+    let same : Forbidden k ≡ Forbidden n = sym e ∙ q in let number : k ≡ n = cc in
+        ap (λ (x : ℕ). Some x) number,
+  ),
   λ p. let same : k ≡ n = cc (p.1) in e ∙ ap (λ (x : ℕ). Forbidden x) same,
 )
 
 -- the same of a whole effect, where no access has a byte in a guard
-pub stopped-of : (s : Bool) (m : Moment) (insn : Insn) (r : ExecEnd) → s ≡ false → r ≡ (effect m insn).end → (r ≡ Stopped) ↔ IsTrue s
+pub stopped-of : (s : Bool) (m : Moment) (insn : Insn) (r : ExecEnd) → s ≡ false → r ≡ (effect m insn).end
+    → (r ≡ Stopped) ↔ IsTrue s
 unfolding effect
 stopped-of s m insn r free e =
-    stopped-where s (break_of m insn) (row m insn) r (done-row m insn) (e ∙ sym (ap (λ (x : Bool). cond x Stopped (judged (break_of m insn) (row m insn)).end) free))
+    stopped-where s (break_of m insn) (row m insn) r (done-row m insn)
+    (e ∙ sym (ap (λ (x : Bool). cond x Stopped (judged (break_of m insn) (row m insn)).end) free))
 
 pub forbidden-of : (s : Bool) (m : Moment) (insn : Insn) (r : ExecEnd) (n : ℕ) → s ≡ false → r ≡ (effect m insn).end
     → (r ≡ Forbidden n) ↔ (¬ IsTrue s × (break_of m insn ≡ Some n))
 unfolding effect
 forbidden-of s m insn r n free e =
-    forbidden-where s (break_of m insn) (row m insn) r n (done-row m insn) (e ∙ sym (ap (λ (x : Bool). cond x Stopped (judged (break_of m insn) (row m insn)).end) free))
+    forbidden-where s (break_of m insn) (row m insn) r n (done-row m insn)
+    (e ∙ sym (ap (λ (x : Bool). cond x Stopped (judged (break_of m insn) (row m insn)).end) free))

@@ -1,5 +1,5 @@
--- No instruction makes more than seven data reads. An operand is read by one access at most, and so two operands by two;
--- IRETQ has five words and two descriptors. By cases on the instruction, over these.
+-- No instruction makes more than seven data reads. An operand is read by one access at most, and so two operands by
+-- two; IRETQ has five words and two descriptors. By cases on the instruction, over these.
 use Rattle.std.proofs.Common.{◌≡◌, ℕ, ◌+◌, ◌%◌, ◌^◌, ◌≤◌, Bool, true, false, cond, List, [], ◌∷◌, ◌++◌, length, Option, Some, None, arith, lit≤, length-append, ◌==◌}
 use Rattle.kc_words.specs.declared.width.Width.{Width}
 use Rattle.kc_words.specs.declared.width.Width.TheVariants.{Quad}
@@ -25,12 +25,14 @@ few-of m w (source.Imm z) = lit≤ tt
 
 -- two operands
 few-pair : (m : Moment) (w : Width) (dest src : Source) → length (reads_of m w dest ++ reads_of m w src) ≤ 7
-few-pair m w dest src = omega (arith, length-append (reads_of m w dest) (reads_of m w src), few-of m w dest, few-of m w src)
+few-pair m w dest src =
+    omega (arith, length-append (reads_of m w dest) (reads_of m w src), few-of m w dest, few-of m w src)
 
 few-one : (m : Moment) (w : Width) (src : Source) → length (reads_of m w src) ≤ 7
 few-one m w src = omega (arith, few-of m w src)
 
-reads-operated : (m : Moment) (w : Width) (dest : Place) (reads : List Access) (flags : ℕ) (v : Option ℕ) → length reads ≤ 7 → length (operated m w dest reads flags v).reads ≤ 7
+reads-operated : (m : Moment) (w : Width) (dest : Place) (reads : List Access) (flags : ℕ) (v : Option ℕ)
+    → length reads ≤ 7 → length (operated m w dest reads flags v).reads ≤ 7
 reads-operated m w dest reads flags None h = h
 reads-operated m w dest reads flags (Some v) h = h
 
@@ -44,7 +46,8 @@ few-end false x y z u v w d = lit≤ tt
 
 few-iret : (m : Moment) → length (iret_reads m) ≤ 7
 few-iret m =
-    few-end (is_null (stack_word m 4 % 2 ^ 16)) (stack_read m 0) (stack_read m 1) (stack_read m 2) (stack_read m 3) (stack_read m 4)
+    few-end (is_null (stack_word m 4 % 2 ^ 16)) (stack_read m 0) (stack_read m 1) (stack_read m 2) (stack_read m 3)
+    (stack_read m 4)
     (descriptor_read m (stack_word m 1 % 2 ^ 16)) (descriptor_read m (stack_word m 4 % 2 ^ 16))
 
 none : 0 ≤ 7
@@ -56,11 +59,13 @@ one = lit≤ tt
 few-msr : (m : Moment) (n v : ℕ) → length (with_msr m n v).reads ≤ 7
 few-msr m n v =
     let last = falls m m.cpu [] None in
-    let third = cond (n == mcg_status) (falls (record m { latch = record m.latch { mcip = false } }) m.cpu [] None) last in
+    let third = cond (n == mcg_status) (falls (record m { latch = record m.latch { mcip = false } }) m.cpu [] None)
+    last in
     let second = cond (n == kernel_gs_base) (falls m (record m.cpu { kgs = v }) [] None) third in
     few-if (n == gs_base) (falls m (record m.cpu { gs = v }) [] None) second none
     (few-if (n == kernel_gs_base) (falls m (record m.cpu { kgs = v }) [] None) third none
-    (few-if (n == mcg_status) (falls (record m { latch = record m.latch { mcip = false } }) m.cpu [] None) last none none))
+    (few-if (n == mcg_status) (falls (record m { latch = record m.latch { mcip = false } }) m.cpu [] None) last none
+    none))
 
 pub few-reads : (m : Moment) (insn : Insn) → length (row m insn).reads ≤ 7
 unfolding row

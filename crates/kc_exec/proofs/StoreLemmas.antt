@@ -1,5 +1,5 @@
--- A write of n bytes takes the low n bytes of its number, here for the two sizes below 8. By the definition of `write` both
--- sides put the same bytes one after another; `omega` compares each two.
+-- A write of n bytes takes the low n bytes of its number, here for the two sizes below 8. By the definition of `write`
+-- both sides put the same bytes one after another; `omega` compares each two.
 use Rattle.std.proofs.Common.{◌≡◌, ℕ, ◌+◌, ◌/◌, ◌%◌, ◌^◌, arith, ap, ◌∙◌}
 use Rattle.kc_mem.specs.Memory.{Bytes, put, next, write}
 

@@ -25,7 +25,9 @@ loads_third_cr3 m insn = false
 
 -- the kernel's GS base is active, CR3 is the kernel's, and RSP after the push lies in a stack
 abbrev pub may_call : Moment → Bool
-may_call m = m.cpu.gs == m.cfg.cpu.kernel_gs && (m.cpu.cr3 == m.cfg.cpu.kernel_cr3 && is_some (stack_of m.cfg.regions (pushed_rsp m)))
+may_call m =
+    m.cpu.gs == m.cfg.cpu.kernel_gs
+    && (m.cpu.cr3 == m.cfg.cpu.kernel_cr3 && is_some (stack_of m.cfg.regions (pushed_rsp m)))
 
 -- B7: a handler is called where it may not be
 abbrev pub miscalls : Moment → Insn → Bool
@@ -40,8 +42,8 @@ is_known_msr number = number == gs_base || (number == kernel_gs_base || number =
 abbrev pub takes : ℕ → ℕ → Bool
 takes number v = if number == mcg_status then v == 0 else is_known_msr number && is_canonical v
 
--- B8: UD2; RDMSR of another number; WRMSR of another number or of a value that it doesn't take; a GS base that isn't canonical.
--- That SYSRETQ ends an activation other than a syscall's is B8 too, and no matter of the instruction alone.
+-- B8: UD2; RDMSR of another number; WRMSR of another number or of a value that it doesn't take; a GS base that isn't
+-- canonical. That SYSRETQ ends an activation other than a syscall's is B8 too, and no matter of the instruction alone.
 abbrev pub is_forbidden : Moment → Insn → Bool
 is_forbidden m Ud2 = true
 is_forbidden m Rdmsr = not (is_known_msr (msr_number m.cpu))

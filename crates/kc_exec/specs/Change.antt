@@ -31,7 +31,8 @@ falls m cpu reads write = goes m m.next cpu reads write
 -- an operation on two operands: its flags, and its result, where it isn't dropped, into the destination
 abbrev pub operated : Moment → Width → Place → List Access → ℕ → Option ℕ → Executed
 operated m w dest reads flags None = falls m (record m.cpu { flags = flags }) reads None
-operated m w dest reads flags (Some v) = falls m (with_result dest v (record m.cpu { flags = flags })) reads (write_of m w dest v)
+operated m w dest reads flags (Some v) =
+    falls m (with_result dest v (record m.cpu { flags = flags })) reads (write_of m w dest v)
 
 -- ---- the stack: SDM vol. 1, "Stack Behavior in 64-Bit Mode"
 

@@ -1,5 +1,6 @@
--- What each instruction does, an equation an instruction, after the "Operation" box of its page in Intel SDM vol. 2, whose
--- name stands above it. Which instructions there are, and what is named as this project's own, is this project's choice.
+-- What each instruction does, an equation an instruction, after the "Operation" box of its page in Intel SDM vol. 2,
+-- whose name stands above it. Which instructions there are, and what is named as this project's own, is this project's
+-- choice.
 use Rattle.std.specs.Prelude.{ℕ, ◌+◌, ◌-◌, ◌*◌, ◌/◌, ◌%◌, ◌^◌, Bool, true, false, cond, not, ◌==◌, if◌then◌else◌, List, [], ◌∷◌, ◌++◌, Option, Some, None, bit_and, bit_or, bit_xor}
 use Rattle.std.specs.Int.{w64, bit_at, bit_not}
 use Rattle.kc_words.specs.declared.width.Width.{Width}
@@ -65,12 +66,14 @@ bit_flags i x flags = replaced 1 (bit_at x i) flags
 -- RBX, RBP and R12 to R15
 abbrev pub kept_registers : Cpu → List ℕ
 kept_registers cpu =
-    register cpu rbx ∷ register cpu rbp ∷ register cpu (numbered 12) ∷ register cpu (numbered 13) ∷ register cpu (numbered 14) ∷ register cpu (numbered 15) ∷ []
+    register cpu rbx ∷ register cpu rbp ∷ register cpu (numbered 12) ∷ register cpu (numbered 13)
+    ∷ register cpu (numbered 14) ∷ register cpu (numbered 15) ∷ []
 
 -- inside the handler that begins at the target, where there is one: this project's own
 abbrev pub called_mode : Moment → Option ℕ → Mode
 called_mode m None = m.cpu.mode
-called_mode m (Some h) = Inside (record { handler = h; rsp = pushed_rsp m; back = m.next; flags = m.cpu.flags; kept = kept_registers m.cpu })
+called_mode m (Some h) =
+    Inside (record { handler = h; rsp = pushed_rsp m; back = m.next; flags = m.cpu.flags; kept = kept_registers m.cpu })
 
 -- ---- model-specific registers: SDM vol. 4
 
@@ -92,7 +95,8 @@ msr_number cpu = register cpu rcx % 2 ^ 32
 abbrev pub edx_eax : Cpu → ℕ
 edx_eax cpu = register cpu rdx % 2 ^ 32 * 2 ^ 32 + register cpu rax % 2 ^ 32
 
--- what the register of this number holds; of IA32_MCG_STATUS only MCIP, bit 2, is modelled, and other numbers are forbidden (B8)
+-- what the register of this number holds; of IA32_MCG_STATUS only MCIP, bit 2, is modelled, and other numbers are
+-- forbidden (B8)
 abbrev pub msr : Moment → ℕ → ℕ
 msr m number =
     if number == gs_base then m.cpu.gs else
@@ -121,10 +125,12 @@ descriptor_read m selector = plain_read (plus m.cfg.cpu.gdt (selector - selector
 abbrev pub is_null : ℕ → Bool
 is_null selector = selector - selector % 4 == 0
 
--- the five words at RSP, then the descriptors of CS and of an SS that isn't null: which, and in which order, is this project's own
+-- the five words at RSP, then the descriptors of CS and of an SS that isn't null: which, and in which order, is this
+-- project's own
 abbrev pub iret_reads : Moment → List Access
 iret_reads m =
-    stack_read m 0 ∷ stack_read m 1 ∷ stack_read m 2 ∷ stack_read m 3 ∷ stack_read m 4 ∷ descriptor_read m (stack_word m 1 % 2 ^ 16)
+    stack_read m 0 ∷ stack_read m 1 ∷ stack_read m 2 ∷ stack_read m 3 ∷ stack_read m 4
+    ∷ descriptor_read m (stack_word m 1 % 2 ^ 16)
     ∷ (if is_null (stack_word m 4 % 2 ^ 16) then [] else descriptor_read m (stack_word m 4 % 2 ^ 16) ∷ [])
 
 -- ---- the table
@@ -149,7 +155,8 @@ row m (Xchg w dest src) =
     falls m (with_register src temp (with_result dest v m.cpu)) (reads_of m w (source_of dest)) (write_of m w dest v)
 -- "PUSH": TEMP := SRC; RSP := RSP - 8; Memory[SS:RSP] := TEMP
 row m (Push src) = falls m (with_pushed_rsp m) (reads_of m Quad src) (push_of m (operand m Quad src))
--- "POP": DEST := SS:RSP; RSP := RSP + 8. An address that uses RSP takes it after the increment, and POP RSP leaves the word
+-- "POP": DEST := SS:RSP; RSP := RSP + 8. An address that uses RSP takes it after the increment, and POP RSP leaves the
+-- word
 row m (Pop dest) =
     let v = stack_word m 0 in
     let after = record m { cpu = with_popped_rsp m } in
@@ -157,12 +164,14 @@ row m (Pop dest) =
 -- "PUSHF/PUSHFD/PUSHFQ": push (RFLAGS)
 row m Pushfq = falls m (with_pushed_rsp m) [] (push_of m m.cpu.flags)
 -- "POPF/POPFD/POPFQ": RFLAGS := Pop(), of the flags that are modelled
-row m Popfq = falls m (record (with_popped_rsp m) { flags = loaded loadable (stack_word m 0) }) (stack_read m 0 ∷ []) None
+row m Popfq =
+    falls m (record (with_popped_rsp m) { flags = loaded loadable (stack_word m 0) }) (stack_read m 0 ∷ []) None
 -- "ADD", "OR", "AND", "SUB", "XOR": DEST := DEST op SRC. "CMP": temp := DEST - SRC
 row m (Alu op w dest src) =
     let x = destination m w dest in
     let y = operand m w src in
-    operated m w dest (reads_of m w (source_of dest) ++ reads_of m w src) (alu_flags op w x y m.cpu.flags) (alu_result op w x y)
+    operated m w dest (reads_of m w (source_of dest) ++ reads_of m w src) (alu_flags op w x y m.cpu.flags)
+    (alu_result op w x y)
 -- "TEST": TEMP := DEST AND SRC
 row m (Test w dest src) =
     let r = bit_and (destination m w dest) (operand m w src) in
@@ -178,7 +187,8 @@ row m (Jcc code target) = goes m (if holds code m.cpu.flags then target else m.n
 row m (Jmp target) = goes m target m.cpu [] None
 -- "CALL", near relative: Push(RIP); RIP := DEST
 row m (Call target) =
-    goes m target (record (with_pushed_rsp m) { mode = called_mode m (handler_of m.cfg.handlers target) }) [] (push_of m m.next)
+    goes m target (record (with_pushed_rsp m) { mode = called_mode m (handler_of m.cfg.handlers target) }) []
+    (push_of m m.next)
 -- "RET", near: RIP := Pop()
 row m Ret = goes m (stack_word m 0) (with_popped_rsp m) (stack_read m 0 ∷ []) None
 -- "CLI": IF := 0. "CLD": DF := 0. "CLAC": AC := 0. "STAC": AC := 1

@@ -1,5 +1,5 @@
--- Operands and their addresses: Intel SDM vol. 1, "Operand Addressing" ("Specifying an Offset", "RIP-Relative Addressing",
--- "Segment Registers in 64-Bit Mode").
+-- Operands and their addresses: Intel SDM vol. 1, "Operand Addressing" ("Specifying an Offset", "RIP-Relative
+-- Addressing", "Segment Registers in 64-Bit Mode").
 use Rattle.std.specs.Prelude.{ℕ, ◌+◌, ◌*◌, ◌%◌, ◌^◌, cond, false, List, [], ◌∷◌, Option, Some, None}
 use Rattle.std.specs.Int.{w64, cast_unsigned}
 use Rattle.kc_words.specs.declared.width.Width.{Width}

@@ -22,8 +22,8 @@ df_mask = 0x400
 abbrev pub ac_mask : ℕ
 ac_mask = 0x40000
 
--- What POPFQ and IRETQ load: CF, PF, AF, ZF, SF, TF, IF, DF, OF, AC and ID. RF, VM, IOPL, NT and the virtual flags are 0
--- everywhere: this project's own.
+-- What POPFQ and IRETQ load: CF, PF, AF, ZF, SF, TF, IF, DF, OF, AC and ID. RF, VM, IOPL, NT and the virtual flags are
+-- 0 everywhere: this project's own.
 abbrev pub loadable : ℕ
 loadable = 0x240FD5
 
@@ -41,8 +41,8 @@ with_set flags mask = bit_or flags mask
 abbrev pub with_clear : ℕ → ℕ → ℕ
 with_clear flags mask = bit_and flags (bit_not w64 mask)
 
--- the flags that an instruction defines become those of `new`; the others stay, those too that the manual leaves undefined
--- (this project's own)
+-- the flags that an instruction defines become those of `new`; the others stay, those too that the manual leaves
+-- undefined (this project's own)
 abbrev pub replaced : ℕ → ℕ → ℕ → ℕ
 replaced defined new flags = bit_or (bit_and flags (bit_not w64 defined)) (bit_and new defined)
 

@@ -31,7 +31,7 @@ pub struct Write {
 impl Write {
     /// The access that the write is.
     pub fn access(&self) -> Access
-        ensures { result ≡ access_of self.now }
+        ensures value { result ≡ access_of self.now }
     {
         Access {
             at: self.at,

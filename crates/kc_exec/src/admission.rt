@@ -33,7 +33,7 @@ fn is_user_gs(gs_writes: bool, gs: u64) -> bool
 /// base is the kernel's, the active one is below 2^47 (or canonical, where user code may write it),
 /// and RSP lies in no stack. The mode isn't looked at.
 pub fn admitted(cfg: &Config, cpu: &Cpu) -> bool
-    ensures { IsTrue result ↔ IsAdmitted cfg.now cpu.now }
+    ensures is { IsTrue result ↔ IsAdmitted cfg.now cpu.now }
 {
     cfg.is_user_cs(cpu.cs)
         && cpu.ss == cfg.user_ss()

@@ -92,7 +92,7 @@ impl<'a> Before<'a> {
         mem: &'a Memory,
         len: u8,
     ) -> Before<'a>
-        ensures { result ≡ moment cfg.now cpu.now latch.now mem.now.bytes len }
+        ensures value { result ≡ moment cfg.now cpu.now latch.now mem.now.bytes len }
     {
         Before {
             cfg,

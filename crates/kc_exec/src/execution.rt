@@ -45,7 +45,7 @@ fn touches_guard(cfg: &Config, at: u64, size: u8) -> bool
 
 /// Whether one of the accesses has a byte in a guard.
 pub fn meets_guard(cfg: &Config, accesses: &[Access]) -> bool
-    ensures { result ≡ stops cfg.now accesses.now }
+    ensures is { result ≡ stops cfg.now accesses.now }
 {
     accesses
         .iter()
@@ -57,7 +57,7 @@ impl Executed {
     /// fetch, then the data reads, then the write.
     pub fn list_accesses(&self, cpu: &Cpu, len: u8, log: &mut Log)
         requires { length self.now.reads ≤ 7 }
-        ensures { log.new ≡ accesses_of cpu.now len self.now }
+        ensures list { log.new ≡ accesses_of cpu.now len self.now }
     {
         log.clear();
         log.push(Access {

@@ -21,7 +21,7 @@ fn is_live_for(cfg: &Config, activation: &Activation, at: u64) -> bool
 /// Whether the byte at `at` is live: it lies in the stack that holds the interrupted RSP of some
 /// activation, at or above that RSP.
 pub fn is_live(cfg: &Config, chain: &[Activation], at: u64) -> bool
-    ensures { IsTrue result ↔ IsLive cfg.now chain.now at }
+    ensures is { IsTrue result ↔ IsLive cfg.now chain.now at }
 {
     chain
         .iter()

@@ -37,7 +37,7 @@ impl Model for Log {
 impl Log {
     /// The empty list.
     pub fn new() -> Log
-        ensures { result ≡ [] }
+        ensures list { result ≡ [] }
     {
         Log {
             items: [NONE; MAX_ACCESSES],
@@ -47,7 +47,7 @@ impl Log {
 
     /// The list of this access alone.
     pub fn of(access: Access) -> Log
-        ensures { result ≡ access ∷ [] }
+        ensures list { result ≡ access ∷ [] }
     {
         let mut log = Log::new();
         log.push(access);
@@ -56,7 +56,7 @@ impl Log {
 
     /// Empties the list.
     pub fn clear(&mut self)
-        ensures { self.new ≡ [] }
+        ensures list { self.new ≡ [] }
     {
         self.len = 0;
     }
@@ -64,7 +64,7 @@ impl Log {
     /// Appends the access.
     pub fn push(&mut self, access: Access)
         requires { length self.old < 16 }
-        ensures { self.new ≡ self.old ++ access ∷ [] }
+        ensures list { self.new ≡ self.old ++ access ∷ [] }
     {
         self.items[self.len] = access;
         self.len += 1;
@@ -73,7 +73,7 @@ impl Log {
     /// Appends the accesses of another list.
     pub fn append(&mut self, other: &Log)
         requires { length self.old + length other.now ≤ 16 }
-        ensures { self.new ≡ self.old ++ other.now }
+        ensures list { self.new ≡ self.old ++ other.now }
     {
         for access in other.items() {
             self.push(*access);

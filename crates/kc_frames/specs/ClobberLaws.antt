@@ -25,7 +25,9 @@ clobber_rank-le c = omega (arith, set_rank-le 16 c.stacks, set_rank-le 40 c.word
 
 -- what a lesser clobber may write, a greater one may write too
 pub stacks_grow : (c d : ClobberSets) (s : ℕ) → clobber_below c d ≡ true → HasStack c s → HasStack d s
-stacks_grow c d s h k = subset_bit c.stacks d.stacks s (and_parts (is_subset c.stacks d.stacks) (is_subset c.words d.words) h).0 k
+stacks_grow c d s h k =
+    subset_bit c.stacks d.stacks s (and_parts (is_subset c.stacks d.stacks) (is_subset c.words d.words) h).0 k
 
 pub words_grow : (c d : ClobberSets) (w : ℕ) → clobber_below c d ≡ true → HasWord c w → HasWord d w
-words_grow c d w h k = subset_bit c.words d.words w (and_parts (is_subset c.stacks d.stacks) (is_subset c.words d.words) h).1 k
+words_grow c d w h k =
+    subset_bit c.words d.words w (and_parts (is_subset c.stacks d.stacks) (is_subset c.words d.words) h).1 k

@@ -52,7 +52,8 @@ under_refl Base = tt
 -- ---- joins
 
 -- the address says no live byte, and the base is the join; or it doesn't, and the top is
-beside_cases : (a : ℕ) → ((a ≡ none_live) × (beside_base a ≡ Base)) ⊎ ((a ≡ none_live → ⊥) × (beside_base a ≡ floor_top))
+beside_cases : (a : ℕ) → ((a ≡ none_live) × (beside_base a ≡ Base))
+    ⊎ ((a ≡ none_live → ⊥) × (beside_base a ≡ floor_top))
 beside_cases a = elim (cases_eq a none_live) [
   | inl e ↦ inl (e, ap (λ (t : Bool). cond t Base floor_top) (eq-eqb a none_live e))
   | inr e ↦ inr (e, ap (λ (t : Bool). cond t Base floor_top) (ne_eqb a none_live e))
@@ -68,7 +69,8 @@ above_address a = elim (beside_cases a) [
 ]
 
 above_base : (a : ℕ) → Under Base (beside_base a)
-above_base a = elim (beside_cases a) [ inl p ↦ subst (Under Base) (sym p.1) tt | inr p ↦ subst (Under Base) (sym p.1) refl ]
+above_base a =
+    elim (beside_cases a) [ inl p ↦ subst (Under Base) (sym p.1) tt | inr p ↦ subst (Under Base) (sym p.1) refl ]
 
 least_beside : (a : ℕ) (z : Floor) → Under (At a) z → Under Base z → Under (beside_base a) z
 least_beside a (At c) h k = elim (beside_cases a) [
@@ -146,14 +148,16 @@ floor_rank-le Base h = omega arith
 
 -- ---- meaning
 
-grows : (x y : Floor) (base least : ℕ) → IsFloor x → Under x y → FloorStands x base (Some least) → FloorStands y base (Some least)
+grows : (x y : Floor) (base least : ℕ) → IsFloor x → Under x y → FloorStands x base (Some least)
+    → FloorStands y base (Some least)
 grows (At a) (At b) base least hx h k = (λ e. k.0 (omega (arith, h, e, hx)), omega (arith, h, k.1))
 grows (At a) Base base least hx h k = absurd (k.0 h)
 grows Base (At b) base least hx h k = (λ e. omega (arith, h, e), omega (arith, h))
 grows Base Base base least hx h k = k
 
 -- what a lesser floor stands for, a greater one stands for too
-pub floor_grows : (x y : Floor) (base : ℕ) (least : Option ℕ) → IsFloor x → IsFloor y → floor_below x y ≡ true → FloorStands x base least → FloorStands y base least
+pub floor_grows : (x y : Floor) (base : ℕ) (least : Option ℕ) → IsFloor x → IsFloor y → floor_below x y ≡ true
+    → FloorStands x base least → FloorStands y base least
 floor_grows x y base None hx hy h k = tt
 floor_grows x y base (Some least) hx hy h k = grows x y base least hx (under x y h) k
 
@@ -172,4 +176,5 @@ floors_laws = reshaped_laws (counted_laws floor_laws 16) parts of_parts (λ x. r
 
 pub floors_rank-le : (f : Floors) → AreFloors f → floors_rank f ≤ 16 * (2 ^ 64 - 1)
 floors_rank-le f h =
-    subst (λ (n : ℕ). floors_rank f ≤ n * (2 ^ 64 - 1)) h.count (rows_rank-le floor_laws (2 ^ 64 - 1) floor_rank-le f.at h.each)
+    subst (λ (n : ℕ). floors_rank f ≤ n * (2 ^ 64 - 1)) h.count
+    (rows_rank-le floor_laws (2 ^ 64 - 1) floor_rank-le f.at h.each)

@@ -10,7 +10,7 @@ pub trait Change<V> {
     /// What slot `i` becomes that is `old`.
     fn at(&self, i: u16, old: &V) -> V
         requires { i < slot_count }
-        ensures { result ≡ changed self.now i old.now };
+        ensures value { result ≡ changed self.now i old.now };
 }
 
 /// Changes each item, whose number is its index.

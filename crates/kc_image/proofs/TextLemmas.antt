@@ -1,7 +1,7 @@
 -- Texts that end before the first 0. The claims: a text's length is the place of the first 0, or all there is
--- (`text_before`, `text_whole`); its first 129 bytes tell whether a name is kept (`kept_by_window`); the first byte that
--- differs orders two texts (`differ_at`). Plan: by recursion over the bytes, by cases on each being 0; omega is left to
--- compare lengths.
+-- (`text_before`, `text_whole`); its first 129 bytes tell whether a name is kept (`kept_by_window`); the first byte
+-- that differs orders two texts (`differ_at`). Plan: by recursion over the bytes, by cases on each being 0; omega is
+-- left to compare lengths.
 use Rattle.std.proofs.Common.{◌≡◌, ℕ, zero, suc, ◌<◌, ◌≤◌, ◌-◌, true, false, eqb, leb, ltb, min, List, [], ◌∷◌, length, take, drop, position, Some, None, refl, sym, ap, inl, inr, arith, ◌∙◌, true≢false, nat_cmp, Ordering, Less, Equal, Greater, ne_eqb, eq-eqb, eqb-true, get_or, ◌+◌}
 use Rattle.std.proofs.lemmas.Bool.{cases_Bool, cases_lt, ltb-false, le-leb, lt-leb, lt-ltb, le-ltb, and_from, and_left, and_right}
 use Rattle.std.proofs.lemmas.List.{take_rest, drop_all, drop_more}
@@ -100,13 +100,15 @@ module _ (xs ys : List ℕ) (i : ℕ) (in_xs : i < length xs) (in_ys : i < lengt
   pub end_at : get_or xs i 0 ≡ get_or ys i 0 → get_or xs i 0 ≡ 0 → rest_order xs ys i ≡ Equal
   end_at same none =
       rests
-      ∙ ap (λ (y : ℕ). slice_cmp nat_cmp (text (get_or xs i 0 ∷ drop (i + 1) xs)) (text (y ∷ drop (i + 1) ys))) (sym same)
+      ∙ ap (λ (y : ℕ). slice_cmp nat_cmp (text (get_or xs i 0 ∷ drop (i + 1) xs)) (text (y ∷ drop (i + 1) ys)))
+      (sym same)
       ∙ both_end (get_or xs i 0) (drop (i + 1) xs) (drop (i + 1) ys) none
 
   pub same_at : get_or xs i 0 ≡ get_or ys i 0 → (get_or xs i 0 ≡ 0 → ⊥) → rest_order xs ys i ≡ rest_order xs ys (i + 1)
   same_at same some =
       rests
-      ∙ ap (λ (y : ℕ). slice_cmp nat_cmp (text (get_or xs i 0 ∷ drop (i + 1) xs)) (text (y ∷ drop (i + 1) ys))) (sym same)
+      ∙ ap (λ (y : ℕ). slice_cmp nat_cmp (text (get_or xs i 0 ∷ drop (i + 1) xs)) (text (y ∷ drop (i + 1) ys)))
+      (sym same)
       ∙ same_byte (get_or xs i 0) (drop (i + 1) xs) (drop (i + 1) ys) some
 
 -- ---- kept names

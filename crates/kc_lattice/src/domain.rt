@@ -23,24 +23,24 @@ pub trait Domain {
 
     /// Whether `self` lies below `other` or is equal to it.
     fn leq(&self, other: &Self) -> bool
-        ensures { result ≡ below self.now other.now };
+        ensures value { result ≡ below self.now other.now };
 
     /// Makes `self` the least upper bound of itself and `other`, which is alike.
     fn join(&mut self, other: &Self)
         requires { alike self.old other.now }
-        ensures { self.new ≡ joined self.old other.now };
+        ensures value { self.new ≡ joined self.old other.now };
 
     /// Whether `self` is the top of its shape.
     fn is_top(&self) -> bool
-        ensures { IsTrue result ↔ (self.now ≡ top_of self.now) };
+        ensures is { IsTrue result ↔ (self.now ≡ top_of self.now) };
 
     /// Makes `self` the top of its shape.
     fn set_top(&mut self)
-        ensures { self.new ≡ top_of self.old };
+        ensures value { self.new ≡ top_of self.old };
 
     /// Does nothing, and tells a proof that the value is valid.
     fn tell(&self)
-        ensures { valid self.now };
+        ensures valid { valid self.now };
 
     // What each `impl` proves.
     ghost laws: { Laws valid alike below joined top_of rank };
@@ -56,7 +56,7 @@ pub trait Meaning: Domain {
 
     /// Whether `self` stands for `c` in `env`.
     fn stands(&self, env: &Self::Env, c: &Self::Conc) -> bool
-        ensures { IsTrue result ↔ holds self.now env.now c.now };
+        ensures is { IsTrue result ↔ holds self.now env.now c.now };
 
     // What a lesser value stands for, a greater one stands for too.
     ghost grows: { (x y : Self) (e : Self.Env) (c : Self.Conc) → Self.valid x → Self.valid y

@@ -9,7 +9,7 @@ use crate::domain::{Domain, Meaning};
 
 /// Whether the lists have one length and are in order at each place.
 pub fn leq_each<V: Domain>(these: &[V], those: &[V]) -> bool
-    ensures { result ≡ rows_below V.below these.now those.now }
+    ensures value { result ≡ rows_below V.below these.now those.now }
 {
     if these.len() != those.len() {
         return false;
@@ -26,7 +26,7 @@ pub fn leq_each<V: Domain>(these: &[V], those: &[V]) -> bool
 /// and alike at each place.
 pub fn join_each<V: Domain>(these: &mut [V], those: &[V])
     requires { AllZip V.alike these.old those.now }
-    ensures { these.new ≡ rows_joined V.joined these.old those.now }
+    ensures value { these.new ≡ rows_joined V.joined these.old those.now }
 {
     for i in 0..these.len() {
         these[i].join(&those[i]);
@@ -35,7 +35,7 @@ pub fn join_each<V: Domain>(these: &mut [V], those: &[V])
 
 /// Whether each value is the top of its shape.
 pub fn is_top_each<V: Domain>(items: &[V]) -> bool
-    ensures { IsTrue result ↔ (items.now ≡ map V.top_of items.now) }
+    ensures is { IsTrue result ↔ (items.now ≡ map V.top_of items.now) }
 {
     for item in items {
         if !item.is_top() {
@@ -47,7 +47,7 @@ pub fn is_top_each<V: Domain>(items: &[V]) -> bool
 
 /// Makes each value the top of its shape.
 pub fn set_top_each<V: Domain>(items: &mut [V])
-    ensures { items.new ≡ map V.top_of items.old }
+    ensures value { items.new ≡ map V.top_of items.old }
 {
     for item in items.iter_mut() {
         item.set_top();
@@ -56,7 +56,7 @@ pub fn set_top_each<V: Domain>(items: &mut [V])
 
 /// Does nothing, and tells a proof that each value is valid.
 pub fn tell_each<V: Domain>(items: &[V])
-    ensures { All V.valid items.now }
+    ensures valid { All V.valid items.now }
 {
     for item in items {
         item.tell();
@@ -65,7 +65,7 @@ pub fn tell_each<V: Domain>(items: &[V])
 
 /// Whether the lists have one length and each value stands, in `env`, for what is at its place.
 pub fn stands_each<V: Meaning>(items: &[V], env: &V::Env, concs: &[V::Conc]) -> bool
-    ensures { IsTrue result ↔ AllZip (λ x c. V.holds x env.now c) items.now concs.now }
+    ensures is { IsTrue result ↔ AllZip (λ x c. V.holds x env.now c) items.now concs.now }
 {
     if items.len() != concs.len() {
         return false;

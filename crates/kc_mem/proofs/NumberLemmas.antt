@@ -63,7 +63,8 @@ pub read_shifted : (m : Bytes) (a n : ℕ) → n ≤ 7 → AreBytes m → 256 * 
 read_shifted m a n le are = omega (arith, read_small m a n are, powers_rise (7 - n) n 7 (omega arith))
 
 -- one byte more, below those that are read
-pub number_more : (m : Bytes) (a size left v b : ℕ) → 0 < left → left ≤ size → v ≡ read m ((a + left) % 2 ^ 64) (size - left)
+pub number_more : (m : Bytes) (a size left v b : ℕ) → 0 < left → left ≤ size → v ≡ read m ((a + left) % 2 ^ 64)
+    (size - left)
     → b ≡ read m ((a + (left - 1)) % 2 ^ 64) 1 → 256 * v + b ≡ read m ((a + (left - 1)) % 2 ^ 64) (size - (left - 1))
 number_more m a size left v b some le is byte_is =
     let at = (a + (left - 1)) % 2 ^ 64 in

@@ -46,7 +46,8 @@ run_chosen a q n b bs o = elim (cases_lt a q) [
   | inl above ↦ one_more_above a q n b bs o (q - a) (q - (a + 1)) above (omega arith)
   | inr rest ↦ elim (cases_lt q a) [
     | inl below ↦ one_more_below a q n b bs o below
-    | inr same ↦ subst (λ x. OneMore x q n b bs o) {x = q} {y = a} (omega arith) (one_more_here q n b bs o (q - q) (omega arith))
+    | inr same ↦ subst (λ x. OneMore x q n b bs o) {x = q} {y = a} (omega arith)
+        (one_more_here q n b bs o (q - q) (omega arith))
   ]
 ]
 
@@ -70,7 +71,8 @@ pub get-bytes_of : (ps : List Page) → All IsWhole ps → (q : ℕ) → get (by
 get-bytes_of [] whole q = get-empty nat_cmp q
 get-bytes_of (p ∷ ps) whole q =
     get-put_run (bytes_of ps) (4096 * p.number) p.bytes.items q
-    ∙ page_chosen p.number q p.bytes.items _ _ (All-head IsWhole p ps whole).size (get-bytes_of ps (All-tail IsWhole p ps whole) q)
+    ∙ page_chosen p.number q p.bytes.items _ _ (All-head IsWhole p ps whole).size
+    (get-bytes_of ps (All-tail IsWhole p ps whole) q)
 
 abbrev pub IsHeldByte : Option ℕ → Type 0
 IsHeldByte o = IfSome o (λ v. (0 < v) × (v < 256))
@@ -82,7 +84,8 @@ held_in_range v false is lt = grind (arith, nat_tests)
 stored_in_range : (ps : List Page) → All IsWhole ps → (q : ℕ) → stored ps q < 256
 stored_in_range [] whole q = omega arith
 stored_in_range (p ∷ ps) whole q =
-    in_page (eqb p.number (q / 4096)) (All-head IsWhole p ps whole) (q % 4096) _ (stored_in_range ps (All-tail IsWhole p ps whole) q)
+    in_page (eqb p.number (q / 4096)) (All-head IsWhole p ps whole) (q % 4096) _
+    (stored_in_range ps (All-tail IsWhole p ps whole) q)
   where
     in_page : (b : Bool) → IsWhole p → (i rest : ℕ) → rest < 256 → cond b (get_or p.bytes.items i 0) rest < 256
     in_page true h i rest lt = elim (cases_lt i (length p.bytes.items)) [

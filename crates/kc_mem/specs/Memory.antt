@@ -16,7 +16,8 @@ pub record MemoryValue : Type 0 where
 
 abbrev pub memory_code : Coded MemoryValue
 memory_code =
-    code_by (Bytes × ℕ) (coded× (map.code coded_ℕ coded_ℕ) coded_ℕ) (λ m. (m.bytes, m.spare)) (λ p. record { bytes = p.0; spare = p.1 }) (λ _. refl)
+    code_by (Bytes × ℕ) (coded× (map.code coded_ℕ coded_ℕ) coded_ℕ) (λ m. (m.bytes, m.spare))
+    (λ p. record { bytes = p.0; spare = p.1 }) (λ _. refl)
 
 -- each is a byte other than 0
 abbrev pub AreBytes : Bytes → Type 0

@@ -141,7 +141,8 @@ fn missing_numbers(
 ) -> Result<Vec<u64>, NoMemory>
     requires { ArePages pages.now }
     ensures absent { IfOk result (λ ns. All (λ n. ¬ HasPage pages.now n) ns.items) }
-    ensures enough { IfOk result (λ ns. All (λ w. HasPage pages.now (w.0 / 4096) ⊎ Contains ns.items (w.0 / 4096)) writes.now) }
+    ensures enough { IfOk result (λ ns. All (λ w. HasPage pages.now (w.0 / 4096) ⊎ Contains ns.items (w.0 / 4096))
+        writes.now) }
 {
     let mut numbers = Vec::new(alloc);
     for &(a, _) in writes {
@@ -153,7 +154,8 @@ fn missing_numbers(
 /// Adds the number where the list has no page of it.
 fn add_missing(numbers: &mut Vec<u64>, pages: &[Page], number: u64) -> Result<(), NoMemory>
     requires { ArePages pages.now }
-    ensures absent { All (λ n. ¬ HasPage pages.now n) numbers.old.items → All (λ n. ¬ HasPage pages.now n) numbers.new.items }
+    ensures absent { All (λ n. ¬ HasPage pages.now n) numbers.old.items
+        → All (λ n. ¬ HasPage pages.now n) numbers.new.items }
     ensures kept { (n : ℕ) → Contains numbers.old.items n → Contains numbers.new.items n }
     ensures there { OnOk result (HasPage pages.now number ⊎ Contains numbers.new.items number) }
 {
@@ -197,9 +199,11 @@ pub(crate) fn add_pages(
     requires missing { AreMissing pages.old.items more.items }
     ensures pages { ArePages pages.new.items }
     ensures bytes { bytes_of pages.new.items ≡ bytes_of pages.old.items }
-    ensures there { OnOk result ((n : ℕ) → HasPage pages.old.items n ⊎ HasPage more.items n → HasPage pages.new.items n) }
+    ensures there { OnOk result ((n : ℕ) → HasPage pages.old.items n ⊎ HasPage more.items n
+        → HasPage pages.new.items n) }
     ensures room { OnOk result (vec_len pages.new + spare ≤ vec_capacity pages.new) }
-    ensures err { OnErr result ((vec_len pages.new ≡ vec_len pages.old) × (vec_capacity pages.old ≤ vec_capacity pages.new)) }
+    ensures err { OnErr result ((vec_len pages.new ≡ vec_len pages.old)
+        × (vec_capacity pages.old ≤ vec_capacity pages.new)) }
 {
     let Some(room) = more.len().checked_add(spare) else {
         return Err(NoMemory);

@@ -1,26 +1,23 @@
--- What a valid description's rules say of the layout. A stack's number is its place among the stacks, so it has one index
--- among the regions, at which the rules on each region speak. An address lies in at most one region, so its region and its
--- stack are those that hold it; a zone is a stack and the guard that ends where it begins.
-use Rattle.std.proofs.Common.{◌≡◌, ◌≢◌, ℕ, zero, suc, ◌+◌, ◌-◌, ◌%◌, ◌^◌, ◌<◌, ◌≤◌, ◌⊎◌, inl, inr, Bool, true, false, cond, List, [], ◌∷◌, length, slice_index_or, slice_get, take, filter, find, position, Option, Some, None, IsSome, refl, sym, ◌∙◌, ap, subst, arith, All, Contains}
-use Rattle.std.proofs.lemmas.Bool.Decides.{nat_tests}
+-- What a valid description's rules say of the layout. A stack's number is its place among the stacks, so it has one
+-- index among the regions, at which the rules on each region speak. An address lies in at most one region, so its
+-- region and its stack are those that hold it; a zone is a stack and the guard that ends where it begins.
+use Rattle.std.proofs.Common.{◌≡◌, ◌≢◌, ℕ, zero, suc, ◌+◌, ◌-◌, ◌^◌, ◌<◌, ◌≤◌, ◌⊎◌, inl, inr, Bool, true, false, cond, List, [], ◌∷◌, length, slice_index_or, slice_get, take, filter, Some, None, IsSome, refl, sym, ◌∙◌, ap, subst, arith, Contains}
 use Rattle.std.proofs.lemmas.Bool.{cases_lt}
 use Rattle.std.proofs.lemmas.List.Quantifiers.{position-Some}
-use Rattle.std.proofs.lemmas.Option.{slice_get-get_or, slice_get_past, slice_get_within, get_or_from_slice_get}
-use Rattle.kc_words.specs.Span.{Holds, Meets}
+use Rattle.std.proofs.lemmas.Option.{slice_get-get_or}
+use Rattle.kc_words.specs.Span.{Holds}
 use Rattle.kc_regions.specs.declared.region.Kind.{Kind}
 use Rattle.kc_regions.specs.declared.region.Kind.TheVariants.{Text, Area, Plain, Stack, Guard, User}
 use Rattle.kc_regions.specs.declared.region.Region.{Region}
 use Rattle.kc_regions.specs.declared.entry.Word.{Word}
-use Rattle.kc_regions.specs.Each.{Each}
 use Rattle.kc_regions.specs.Region.{holds, is_area, is_stack, is_guard, region_of, stacks_of, stack_of, stack_at}
-use Rattle.kc_regions.specs.Regions.{AreRegions, HasByte, MeetsNone}
-use Rattle.kc_regions.specs.Order.{IsHolder, NoneHolds, number_of, number_at}
+use Rattle.kc_regions.specs.Order.{number_of}
 use Rattle.kc_regions.specs.Description.{Description}
 use Rattle.kc_regions.specs.CrossRules.{IsOnSide, IsOnItsSide, IsStackInBounds, IsGuardBelow, IsInArea}
-use Rattle.kc_regions.specs.Permission.{passes, in_guard}
+use Rattle.kc_regions.specs.Permission.{in_guard}
 use Rattle.kc_regions.specs.Valid.{IsValid}
 use Rattle.kc_regions.specs.Layout.{InBytes, InZone, IsStackAt, Laid}
-use Rattle.kc_regions.proofs.OrderLemmas.{holder-of, one-holder, region-held, region-none, number-held, true-holds}
+use Rattle.kc_regions.proofs.OrderLemmas.{holder-of, region-held, region-none, number-held, true-holds}
 
 stack-kind : (k : Kind) → is_stack k ≡ true → k ≡ Stack
 stack-kind Stack h = refl
@@ -58,19 +55,28 @@ some-is : {X : Type 0} (x y : X) → Some x ≡ Some y → x ≡ y
 some-is x y e = cc
 
 -- by the first element's answer
-first-answers : {X : Type 0} (q : X → Bool) (y : X) (ys : List X) (x : X) → ((t : ℕ) → slice_get (filter q ys) t ≡ Some x → Passing q ys t x)
-    → (b : Bool) → q y ≡ b → (s : ℕ) → slice_get (cond b (y ∷ filter q ys) (filter q ys)) s ≡ Some x → Passing q (y ∷ ys) s x
+first-answers : {X : Type 0} (q : X → Bool) (y : X) (ys : List X) (x : X)
+    → ((t : ℕ) → slice_get (filter q ys) t ≡ Some x → Passing q ys t x)
+    → (b : Bool) → q y ≡ b → (s : ℕ) → slice_get (cond b (y ∷ filter q ys) (filter q ys)) s ≡ Some x
+    → Passing q (y ∷ ys) s x
 first-answers q y ys x deeper true e zero h =
     let same = some-is y x h in
     record { index = 0; inside = omega arith; at = same; pass = subst (λ z. q z ≡ true) same e; before = refl }
 first-answers q y ys x deeper true e (suc t) h =
     let p = deeper t h in
-    record { index = suc p.index; inside = omega (arith, p.inside); at = p.at; pass = p.pass; before = rw e (omega (arith, p.before)) }
+    record {
+      index = suc p.index;
+      inside = omega (arith, p.inside);
+      at = p.at;
+      pass = p.pass;
+      before = rw e (omega (arith, p.before));
+    }
 first-answers q y ys x deeper false e s h =
     let p = deeper s h in
     record { index = suc p.index; inside = omega (arith, p.inside); at = p.at; pass = p.pass; before = rw e p.before }
 
-passing : {X : Type 0} (q : X → Bool) (xs : List X) (s : ℕ) (x : X) → slice_get (filter q xs) s ≡ Some x → Passing q xs s x
+passing : {X : Type 0} (q : X → Bool) (xs : List X) (s : ℕ) (x : X) → slice_get (filter q xs) s ≡ Some x
+    → Passing q xs s x
 passing q [] s x h = absurd cc
 passing q (y ∷ ys) s x h = first-answers q y ys x (λ t g. passing q ys t x g) (q y) refl s h
 
@@ -87,9 +93,11 @@ first-of (r ∷ list) some = r
 
 module _ (d : Description) (v : IsValid d) (e : Region) where
   -- a region that holds the address is its region
-  region-at : (x i : ℕ) (r : Region) → i < length d.regions → slice_index_or d.regions i r ≡ r → Holds r.span x → region_of d.regions x ≡ Some r
+  region-at : (x i : ℕ) (r : Region) → i < length d.regions → slice_index_or d.regions i r ≡ r → Holds r.span x
+      → region_of d.regions x ≡ Some r
   region-at x i r inside at held =
-      sym (region-held d.regions x i v.regions (holder-of d.regions x i r inside (subst (λ z. Holds z.span x) (sym at) held)))
+      sym (region-held d.regions x i v.regions
+      (holder-of d.regions x i r inside (subst (λ z. Holds z.span x) (sym at) held)))
       ∙ slice_get-get_or d.regions i r inside ∙ ap (λ z. Some z) at
 
   region-in : (x : ℕ) (r : Region) → Contains d.regions r → Holds r.span x → region_of d.regions x ≡ Some r
@@ -100,10 +108,12 @@ module _ (d : Description) (v : IsValid d) (e : Region) where
     place = passing (λ z. is_stack z.kind) d.regions s r is
 
     bounds : IsStackInBounds (take place.index d.regions) r
-    bounds = subst (λ z. is_stack z.kind ≡ true → IsStackInBounds (take place.index d.regions) z) place.at (v.rules.stacks place.index r place.inside) place.pass
+    bounds = subst (λ z. is_stack z.kind ≡ true → IsStackInBounds (take place.index d.regions) z) place.at
+        (v.rules.stacks place.index r place.inside) place.pass
 
     guard : (g : Region) × Contains d.regions g × IsGuardBelow r g
-    guard = subst (λ z. is_stack z.kind ≡ true → (g : Region) × Contains d.regions g × IsGuardBelow z g) place.at (v.rules.guards place.index r place.inside) place.pass
+    guard = subst (λ z. is_stack z.kind ≡ true → (g : Region) × Contains d.regions g × IsGuardBelow z g) place.at
+        (v.rules.guards place.index r place.inside) place.pass
 
     filled : (a : ℕ) × Holds r.span a
     filled = subst (λ z. (a : ℕ) × Holds z.span a) place.at (v.regions.filled place.index r place.inside)
@@ -119,7 +129,8 @@ module _ (d : Description) (v : IsValid d) (e : Region) where
         let side : IsOnItsSide [] g = subst (λ z. IsOnItsSide [] z) k.2 (v.rules.sides k.0 g k.1) in
         let below = guard.2 in
         subst (λ kind. IsOnSide kind (r.span.from - 4096)) (guard-kind g.kind below.guard)
-        (side (r.span.from - 4096) (below.bytes (r.span.from - 4096) (omega (arith, below.room)) (omega (arith, below.room))))
+        (side (r.span.from - 4096) (below.bytes (r.span.from - 4096) (omega (arith, below.room))
+        (omega (arith, below.room))))
 
     stack-is : IsStackAt r
     stack-is =
@@ -137,14 +148,17 @@ module _ (d : Description) (v : IsValid d) (e : Region) where
 
     stack-byte : (x : ℕ) → Holds r.span x → stack_of d.regions x ≡ Some s
     stack-byte x held =
-        sym (number-held d.regions x place.index v.regions (holder-of d.regions x place.index r place.inside (subst (λ z. Holds z.span x) (sym place.at) held)))
-        ∙ ap (number_of (take place.index d.regions)) (slice_get-get_or d.regions place.index r place.inside ∙ ap (λ z. Some z) place.at)
+        sym (number-held d.regions x place.index v.regions (holder-of d.regions x place.index r place.inside
+        (subst (λ z. Holds z.span x) (sym place.at) held)))
+        ∙ ap (number_of (take place.index d.regions)) (slice_get-get_or d.regions place.index r place.inside
+        ∙ ap (λ z. Some z) place.at)
         ∙ rw place.pass (ap (λ n. Some n) place.before)
 
     guard-byte : (x : ℕ) → r.span.from ≤ x + 4096 → x < r.span.from → region_of d.regions x ≡ Some guard.0
     guard-byte x low high = region-in x guard.0 guard.1 (guard.2.bytes x low high)
 
-    zone-cases : (x : ℕ) → r.span.from ≤ x + 4096 → x < r.span.to → (stack_of d.regions x ≡ Some s) ⊎ (region_of d.regions x ≡ Some guard.0)
+    zone-cases : (x : ℕ) → r.span.from ≤ x + 4096 → x < r.span.to → (stack_of d.regions x ≡ Some s)
+        ⊎ (region_of d.regions x ≡ Some guard.0)
     zone-cases x low high = elim (cases_lt x r.span.from) [
       | inl below ↦ inr (guard-byte x low below)
       | inr above ↦ inl (stack-byte x (above, high))
@@ -157,8 +171,12 @@ module _ (d : Description) (v : IsValid d) (e : Region) where
       let r = slice_index_or (stacks_of d.regions) s e in
       let at = slice_get-get_or (stacks_of d.regions) s e p.0 in
       let held = true-holds (slice_index_or (stacks_of d.regions) s e).span x p.1 in
-      let i = place s (slice_index_or (stacks_of d.regions) s e) at in
-      (slice_index_or (stacks_of d.regions) s e, at, held, region-at x i.index (slice_index_or (stacks_of d.regions) s e) i.inside i.at held)
+      let i = place s (slice_index_or (stacks_of d.regions) s e) at in (
+        slice_index_or (stacks_of d.regions) s e,
+        at,
+        held,
+        region-at x i.index (slice_index_or (stacks_of d.regions) s e) i.inside i.at held,
+      )
 
   guarded : (x : ℕ) (g : Region) → region_of d.regions x ≡ Some g → is_guard g.kind ≡ true → in_guard d.regions x ≡ true
   guarded x g is kind = rw is kind
@@ -173,7 +191,8 @@ module _ (d : Description) (v : IsValid d) (e : Region) where
   near-stack s b x is low high = let r = stack-region s b is in (r.0, r.1, omega (arith, r.2.0), omega (arith, r.2.1))
 
   -- a stack's byte isn't a guard's
-  stack-no-guard : (s x : ℕ) (g : Region) → stack_of d.regions x ≡ Some s → region_of d.regions x ≡ Some g → is_guard g.kind ≡ true → ⊥
+  stack-no-guard : (s x : ℕ) (g : Region) → stack_of d.regions x ≡ Some s → region_of d.regions x ≡ Some g
+      → is_guard g.kind ≡ true → ⊥
   stack-no-guard s x g stack is kind =
       let r = stack-region s x stack in
       let same : r.0 ≡ g = some-is r.0 g (sym r.3 ∙ is) in
@@ -207,22 +226,31 @@ module _ (d : Description) (v : IsValid d) (e : Region) where
     ]
   ]
 
-  no-zone : (s x : ℕ) (r : Region) → region_of d.regions x ≡ Some r → r.kind ≢ Stack → r.kind ≢ Guard → InZone d.regions s x → ⊥
+  no-zone : (s x : ℕ) (r : Region) → region_of d.regions x ≡ Some r → r.kind ≢ Stack → r.kind ≢ Guard
+      → InZone d.regions s x → ⊥
   no-zone s x r is no_stack no_guard (q, at, low, high) = elim (zone-cases s q at x low high) [
     | inl stack ↦
         let p = stack-region s x stack in
-        no_stack (subst (λ z. z.kind ≡ Stack) (some-is p.0 r (sym p.3 ∙ is)) (stack-kind p.0.kind (place s p.0 p.1).pass))
-    | inr g ↦ no_guard (subst (λ z. z.kind ≡ Guard) (some-is (guard s q at).0 r (sym g ∙ is)) (guard-kind (guard s q at).0.kind (guard s q at).2.guard))
+        no_stack (subst (λ z. z.kind ≡ Stack) (some-is p.0 r (sym p.3 ∙ is))
+        (stack-kind p.0.kind (place s p.0 p.1).pass))
+    | inr g ↦ no_guard (subst (λ z. z.kind ≡ Guard) (some-is (guard s q at).0 r (sym g ∙ is))
+        (guard-kind (guard s q at).0.kind (guard s q at).2.guard))
   ]
 
   no-last : region_of d.regions (2 ^ 64 - 1) ≡ None
-  no-last = sym (region-none d.regions (2 ^ 64 - 1) (λ i h. omega (arith, (h.holds e).1, (v.ranges.regions i e h.inside).span.1)))
+  no-last = sym (region-none d.regions (2 ^ 64 - 1) (λ i h. omega (
+    arith,
+    (h.holds e).1,
+    (v.ranges.regions i e h.inside).span.1,
+  )))
 
-  no-wrap : (a n : ℕ) → a < 2 ^ 64 → 0 < n → ((x : ℕ) → x < 2 ^ 64 → InBytes x a n → IsSome (region_of d.regions x)) → a + n < 2 ^ 64
+  no-wrap : (a n : ℕ) → a < 2 ^ 64 → 0 < n → ((x : ℕ) → x < 2 ^ 64 → InBytes x a n → IsSome (region_of d.regions x))
+      → a + n < 2 ^ 64
   no-wrap a n fits some all = elim (cases_lt (a + n) (2 ^ 64)) [
     | inl less ↦ less
     | inr wraps ↦
-        let last : IsSome (region_of d.regions (2 ^ 64 - 1)) = all (2 ^ 64 - 1) (omega arith) (byte-of (2 ^ 64 - 1) a n (omega arith) (omega arith) (omega arith)) in
+        let last : IsSome (region_of d.regions (2 ^ 64 - 1)) =
+        all (2 ^ 64 - 1) (omega arith) (byte-of (2 ^ 64 - 1) a n (omega arith) (omega arith) (omega arith)) in
         let none : IsSome {T = Region} None = subst (λ o. IsSome o) no-last last in
         absurd (cc none)
   ]
@@ -241,11 +269,13 @@ module _ (d : Description) (v : IsValid d) (e : Region) where
         | inl below ↦
             let begins = (stack-is s r is).begins in
             absurd (unguarded s r is (r.span.from - 1) (omega arith) (omega arith)
-            (all (r.span.from - 1) (omega arith) (byte-of (r.span.from - 1) a n (omega arith) (omega arith) (omega (arith, between.1)))).1)
+            (all (r.span.from - 1) (omega arith) (byte-of (r.span.from - 1) a n (omega arith) (omega arith)
+            (omega (arith, between.1)))).1)
         | inr above ↦ stack-byte s r is a (above, omega (arith, between.0, zhigh))
       ]
     where
-      unguarded : (s : ℕ) (r : Region) (is : stack_at d.regions s ≡ Some r) (y : ℕ) → r.span.from ≤ y + 4096 → y < r.span.from → in_guard d.regions y ≡ false → ⊥
+      unguarded : (s : ℕ) (r : Region) (is : stack_at d.regions s ≡ Some r) (y : ℕ) → r.span.from ≤ y + 4096
+          → y < r.span.from → in_guard d.regions y ≡ false → ⊥
       unguarded s r is y low high none =
           let some = guarded y (guard s r is).0 (guard-byte s r is y low high) (guard s r is).2.guard in
           absurd (cc)
@@ -256,11 +286,17 @@ module _ (d : Description) (v : IsValid d) (e : Region) where
     | inl more ↦
         let at = slice_get-get_or (stacks_of d.regions) 16 e more in
         let r = slice_index_or (stacks_of d.regions) 16 e in
-        absurd (omega (arith, (bounds 16 (slice_index_or (stacks_of d.regions) 16 e) at).number, (place 16 (slice_index_or (stacks_of d.regions) 16 e) at).before))
+        absurd (omega (
+          arith,
+          (bounds 16 (slice_index_or (stacks_of d.regions) 16 e) at).number,
+          (place 16 (slice_index_or (stacks_of d.regions) 16 e) at).before,
+        ))
   ]
 
-  area-byte : (a n k : ℕ) → IsInArea d.regions a n → k < n → (r : Region) × (region_of d.regions (a + k) ≡ Some r) × (r.kind ≡ Area)
-  area-byte a n k (r, in_list, kind, bytes) below = (r, region-in (a + k) r in_list (bytes k below), area-kind r.kind kind)
+  area-byte : (a n k : ℕ) → IsInArea d.regions a n → k < n → (r : Region) × (region_of d.regions (a + k) ≡ Some r)
+      × (r.kind ≡ Area)
+  area-byte a n k (r, in_list, kind, bytes) below =
+      (r, region-in (a + k) r in_list (bytes k below), area-kind r.kind kind)
 
   laid-with : Laid d
   laid-with = record {

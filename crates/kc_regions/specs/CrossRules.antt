@@ -24,7 +24,8 @@ IsOnSide _ a = 2 ^ 63 ≤ a
 abbrev pub IsOnItsSide : List Region → Region → Type 0
 IsOnItsSide earlier r = (a : ℕ) → Holds r.span a → IsOnSide r.kind a
 
--- A stack begins and ends at multiples of 16 and has at most 65,536 bytes. There are at most 16 stacks, 3 of them marked.
+-- A stack begins and ends at multiples of 16 and has at most 65,536 bytes. There are at most 16 stacks, 3 of them
+-- marked.
 pub record IsStackInBounds (earlier : List Region) (r : Region) : Type 0 where
   pub begins : r.span.from % 16 ≡ 0
   pub ends : r.span.to % 16 ≡ 0
@@ -53,7 +54,8 @@ pub record AreCr3Apart (cpu : CpuSetup) (regions : List Region) : Type 0 where
 
 -- one area region holds each of the n bytes from address a on
 abbrev pub IsInArea : List Region → ℕ → ℕ → Type 0
-IsInArea regions a n = (r : Region) × Contains regions r × (is_area r.kind ≡ true) × ((k : ℕ) → k < n → Holds r.span (a + k))
+IsInArea regions a n =
+    (r : Region) × Contains regions r × (is_area r.kind ≡ true) × ((k : ℕ) → k < n → Holds r.span (a + k))
 
 -- an area holds the 104 bytes of the TSS
 abbrev pub IsTssInArea : CpuSetup → List Region → Type 0
@@ -137,8 +139,8 @@ pub record CrossRulesBelow (n : ℕ) (d : Description) : Type 0 where
   pub gates : GATES < n → NeededGates d
   pub entries : ENTRIES < n → EntriesDiffer d
 
--- The fault names the first rule that fails, and the first element that breaks it: a region, gate, handler or word by its
--- index, for the needed gates the missing vector, and 0 for the two rules on the processor's setup.
+-- The fault names the first rule that fails, and the first element that breaks it: a region, gate, handler or word by
+-- its index, for the needed gates the missing vector, and 0 for the two rules on the processor's setup.
 pub record IsFirstCrossFault (d : Description) (f : CrossFault) : Type 0 where
   pub rule : (SIDES ≤ f.rule) × (f.rule ≤ WORDS)
   pub earlier : CrossRulesBelow f.rule d
@@ -148,6 +150,7 @@ pub record IsFirstCrossFault (d : Description) (f : CrossFault) : Type 0 where
   pub cr3_values : f.rule ≡ CR3_VALUES → (f.index ≡ 0) × ¬ Cr3ValuesApart d
   pub tss : f.rule ≡ TSS → (f.index ≡ 0) × ¬ TssInArea d
   pub vectors : f.rule ≡ VECTORS → IsFirstBreaking IsNewVector d.gates f.index
-  pub gates : f.rule ≡ GATES → (i : ℕ) × IsFirstBreaking (HasGate d.gates) needed_vectors i × (f.index ≡ slice_index needed_vectors i)
+  pub gates : f.rule ≡ GATES → (i : ℕ) × IsFirstBreaking (HasGate d.gates) needed_vectors i
+      × (f.index ≡ slice_index needed_vectors i)
   pub entries : f.rule ≡ ENTRIES → IsFirstBreaking IsNewEntry d.handlers f.index
   pub words : f.rule ≡ WORDS → IsFirstBreaking (IsWordPlaced d.cpu.tss d.regions) d.words f.index

@@ -13,3 +13,7 @@ pub record Description : Type 0 where
   pub gates : List Gate
   pub handlers : List Handler
   pub words : List Word
+
+abbrev pub of_parts : CpuSetup → List Region → List Gate → List Handler → List Word → Description
+of_parts cpu regions gates handlers words =
+    record { cpu = cpu; regions = regions; gates = gates; handlers = handlers; words = words }

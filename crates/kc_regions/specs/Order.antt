@@ -26,7 +26,8 @@ number_at list i = number_of (take i list) (slice_get list i)
 -- the numbers of all regions, rising by first address
 pub record IsOrder (list : List Region) (order : List ℕ) : Type 0 where
   pub numbers : (k : ℕ) → k < length order → slice_index order k < length list
-  pub rising : (j k : ℕ) → j ≤ k → k < length order → first_of list (slice_index order j) ≤ first_of list (slice_index order k)
+  pub rising : (j k : ℕ) → j ≤ k → k < length order
+      → first_of list (slice_index order j) ≤ first_of list (slice_index order k)
   pub all : (i : ℕ) → i < length list → (k : ℕ) × (k < length order) × (slice_index order k ≡ i)
 
 -- for each region how many stacks stand before it

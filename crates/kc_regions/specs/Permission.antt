@@ -1,5 +1,5 @@
--- What an access may touch under a CR3, and the selectors of user code. This project's own, but for the selectors, which are
--- those of SDM vol. 2B, "SYSRET".
+-- What an access may touch under a CR3, and the selectors of user code. This project's own, but for the selectors,
+-- which are those of SDM vol. 2B, "SYSRET".
 use Rattle.std.specs.Prelude.{ℕ, ◌+◌, Bool, true, false, ◌&&◌, ◌||◌, not, nat_eq, List, Option, Some, None, bit_or}
 use Rattle.kc_regions.specs.declared.region.Region.{Region}
 use Rattle.kc_regions.specs.declared.cpu.CpuSetup.{CpuSetup}

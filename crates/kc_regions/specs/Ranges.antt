@@ -1,9 +1,8 @@
 -- The range of each value of a description, by itself. This project's own.
-use Rattle.std.specs.Prelude.{◌≡◌, ◌≢◌, ℕ, ◌+◌, ◌%◌, ◌^◌, ◌<◌, ◌≤◌, ◌⊎◌, true, List, length, All, IfSome}
+use Rattle.std.specs.Prelude.{◌≡◌, ◌≢◌, ℕ, ◌%◌, ◌^◌, ◌<◌, ◌≤◌, ◌⊎◌, true, length, All, IfSome}
 use Rattle.std.specs.Int.{bit_at}
 use Rattle.kc_regions.specs.declared.regions.TheConstants.{MAX_REGIONS}
 use Rattle.kc_regions.specs.declared.config.TheConstants.{MAX_GATES, MAX_HANDLERS, MAX_WORDS}
-use Rattle.kc_regions.specs.declared.region.Kind.{Kind}
 use Rattle.kc_regions.specs.declared.region.Kind.TheVariants.{Text, Stack, Guard}
 use Rattle.kc_regions.specs.declared.region.Region.{Region}
 use Rattle.kc_regions.specs.declared.entry.Gate.{Gate}

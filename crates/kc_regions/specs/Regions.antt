@@ -1,6 +1,5 @@
 -- Lists of regions: none is empty, and no address lies in two. This project's own.
 use Rattle.std.specs.Prelude.{ℕ, ◌<◌, ◌≤◌, List, length, All}
-use Rattle.kc_words.specs.Range.{Range}
 use Rattle.kc_words.specs.Span.{Holds, Meets}
 use Rattle.kc_regions.specs.declared.regions.TheConstants.{MAX_REGIONS}
 use Rattle.kc_regions.specs.declared.region.Region.{Region}
@@ -21,8 +20,10 @@ pub record AreRegions (regions : List Region) : Type 0 where
   pub filled : Each HasByte regions
   pub apart : Each MeetsNone regions
 
--- The first rule that the list breaks: too many regions, then one without an address, then one that meets an earlier one.
+-- The first rule that the list breaks: too many regions, then one without an address, then one that meets an earlier
+-- one.
 abbrev pub IsFirstRegionFault : List Region → RegionFault → Type 0
 IsFirstRegionFault regions TooMany = MAX_REGIONS < length regions
 IsFirstRegionFault regions (Empty i) = (length regions ≤ MAX_REGIONS) × IsFirstBreaking HasByte regions i
-IsFirstRegionFault regions (Meet i) = (length regions ≤ MAX_REGIONS) × Each HasByte regions × IsFirstBreaking MeetsNone regions i
+IsFirstRegionFault regions (Meet i) =
+    (length regions ≤ MAX_REGIONS) × Each HasByte regions × IsFirstBreaking MeetsNone regions i

@@ -2,7 +2,7 @@
 
 ghost use Rattle.std.specs.Prelude.{◌≡◌, ◌≤◌, ◌<◌, ◌^◌, ℕ, length, IfOk, IfErr, slice_index, true, false};
 ghost use Rattle.kc_regions.specs.Each.{Each, IsFirstBreaking};
-ghost use Rattle.kc_regions.specs.Description.{Description};
+ghost use Rattle.kc_regions.specs.Description.{of_parts};
 ghost use Rattle.kc_regions.specs.Ranges.{AreInRange};
 ghost use Rattle.kc_regions.specs.CrossRules.{CrossRules, IsFirstCrossFault, AreCr3Apart, IsTssInArea, HasGate, needed_vectors};
 
@@ -30,9 +30,9 @@ pub(crate) fn check_rules(
     handlers: &[Handler],
     words: &[Word],
 ) -> Result<(), CrossFault>
-    requires { AreInRange (record { cpu = cpu.now; regions = regions.now; gates = gates.now; handlers = handlers.now; words = words.now }) }
-    ensures ok { IfOk result (λ _. CrossRules (record { cpu = cpu.now; regions = regions.now; gates = gates.now; handlers = handlers.now; words = words.now })) }
-    ensures fault { IfErr result (IsFirstCrossFault (record { cpu = cpu.now; regions = regions.now; gates = gates.now; handlers = handlers.now; words = words.now })) }
+    requires { AreInRange (of_parts cpu.now regions.now gates.now handlers.now words.now) }
+    ensures ok { IfOk result (λ _. CrossRules (of_parts cpu.now regions.now gates.now handlers.now words.now)) }
+    ensures fault { IfErr result (IsFirstCrossFault (of_parts cpu.now regions.now gates.now handlers.now words.now)) }
 {
     let list = regions.list();
     check_each(SIDES, &OnItsSide, list)?;
@@ -103,7 +103,8 @@ fn whole(number: u8, holds: bool) -> Result<(), CrossFault>
 fn check_gates(gates: &[Gate]) -> Result<(), CrossFault>
     ensures ok { IfOk result (λ _. Each (HasGate gates.now) needed_vectors) }
     ensures number { IfErr result (λ f. f.rule ≡ GATES) }
-    ensures first { IfErr result (λ f. (i : ℕ) × IsFirstBreaking (HasGate gates.now) needed_vectors i × (f.index ≡ slice_index needed_vectors i)) }
+    ensures first { IfErr result (λ f. (i : ℕ) × IsFirstBreaking (HasGate gates.now) needed_vectors i
+        × (f.index ≡ slice_index needed_vectors i)) }
 {
     match first_breaking(&NeededGate { gates }, &NEEDED) {
         Some(i) => Err(CrossFault {

@@ -1,7 +1,7 @@
 //! A whole description, with the rules between its parts.
 
 ghost use Rattle.std.specs.Prelude.{◌≡◌, ◌≤◌, IfOk, IfErr, length};
-ghost use Rattle.kc_regions.specs.Description.{Description};
+ghost use Rattle.kc_regions.specs.Description.{of_parts};
 ghost use Rattle.kc_regions.specs.Ranges.{AreInRange};
 ghost use Rattle.kc_regions.specs.CrossRules.{IsFirstCrossFault};
 ghost use Rattle.kc_regions.specs.Valid.{IsValid};
@@ -74,15 +74,15 @@ pub struct Config {
 }
 
 impl Model for Config {
-    ghost use Rattle.kc_regions.specs.Description.{Description};
+    ghost use Rattle.kc_regions.specs.Description.{Description, of_parts};
 
     ghost Value = { Description };
 
     ghost use Rattle.kc_regions.specs.Valid.{IsValid};
 
-    ghost view = { λ c. record { cpu = c.cpu; regions = c.regions; gates = c.gates; handlers = c.handlers; words = c.words } };
+    ghost view = { λ c. of_parts c.cpu c.regions c.gates c.handlers c.words };
 
-    ghost invariant = { λ c. IsValid (record { cpu = c.cpu; regions = c.regions; gates = c.gates; handlers = c.handlers; words = c.words }) };
+    ghost invariant = { λ c. IsValid (of_parts c.cpu c.regions c.gates c.handlers c.words) };
 }
 
 impl Config {
@@ -95,10 +95,10 @@ impl Config {
         handlers: Items<Handler>,
         words: Items<Word>,
     ) -> Result<Config, CrossFault>
-        requires { AreInRange (record { cpu = cpu; regions = regions; gates = gates; handlers = handlers; words = words }) }
-        ensures parts { IfOk result (λ c. c ≡ record { cpu = cpu; regions = regions; gates = gates; handlers = handlers; words = words }) }
+        requires { AreInRange (of_parts cpu regions gates handlers words) }
+        ensures parts { IfOk result (λ c. c ≡ of_parts cpu regions gates handlers words) }
         ensures valid { IfOk result IsValid }
-        ensures fault { IfErr result (IsFirstCrossFault (record { cpu = cpu; regions = regions; gates = gates; handlers = handlers; words = words })) }
+        ensures fault { IfErr result (IsFirstCrossFault (of_parts cpu regions gates handlers words)) }
     {
         check_rules(
             &cpu,
@@ -118,14 +118,14 @@ impl Config {
 
     /// Does nothing, and tells a proof that the description is valid.
     pub fn tell(&self)
-        ensures { IsValid self.now }
+        ensures valid { IsValid self.now }
     {
         let _cpu = self.cpu;
     }
 
     /// Whether the address lies in a guard: an access to it stops the machine.
     pub fn is_guard(&self, a: u64) -> bool
-        ensures { result ≡ in_guard self.now.regions a }
+        ensures is { result ≡ in_guard self.now.regions a }
     {
         match self.regions.of(a) {
             Some(region) => region.kind.is_guard(),
@@ -136,7 +136,7 @@ impl Config {
     /// Whether the address lies in a region that is present under this CR3 and has the right that
     /// the access needs.
     pub fn permits(&self, cr3: u64, touch: Touch, a: u64) -> bool
-        ensures { result ≡ permits self.now cr3 touch a }
+        ensures is { result ≡ permits self.now cr3 touch a }
     {
         match self.regions.of(a) {
             Some(region) => self.is_present(cr3, region) && has_right(touch, region),
@@ -155,35 +155,35 @@ impl Config {
 
     /// The gate of this vector.
     pub fn gate(&self, vector: u8) -> Option<Gate>
-        ensures { result ≡ gate_of self.now.gates vector }
+        ensures value { result ≡ gate_of self.now.gates vector }
     {
         find_gate(self.gates.as_slice(), vector)
     }
 
     /// The number of the handler that begins at this address.
     pub fn handler_of(&self, entry: u64) -> Option<u16>
-        ensures { result ≡ handler_of self.now.handlers entry }
+        ensures value { result ≡ handler_of self.now.handlers entry }
     {
         find_handler(self.handlers.as_slice(), entry)
     }
 
     /// The CS of 64-bit user code.
     pub fn user_cs64(&self) -> u16
-        ensures { result ≡ user_cs64 self.now.cpu }
+        ensures value { result ≡ user_cs64 self.now.cpu }
     {
         (self.cpu.star_user + 16) | 3
     }
 
     /// The SS of user code.
     pub fn user_ss(&self) -> u16
-        ensures { result ≡ user_ss self.now.cpu }
+        ensures value { result ≡ user_ss self.now.cpu }
     {
         (self.cpu.star_user + 8) | 3
     }
 
     /// Whether user code may have this CS.
     pub fn is_user_cs(&self, cs: u16) -> bool
-        ensures { result ≡ is_user_cs self.now.cpu cs }
+        ensures is { result ≡ is_user_cs self.now.cpu cs }
     {
         cs == self.user_cs64() || self.cpu.user_cs32 == Some(cs)
     }

@@ -197,7 +197,8 @@ impl<'a> Rule<Word> for WordPlaced<'a> {
 
 /// Whether no byte of the word at `at` lies in one of these or in a word of the TSS.
 fn is_apart(words: &[Word], tss: u64, at: u64) -> bool
-    ensures { IsTrue result ↔ (All (λ e. ¬ WordsMeet e.at at) words.now × ((n : ℕ) → n < 8 → ¬ WordsMeet (tss_word tss n) at)) }
+    ensures { IsTrue result ↔ (All (λ e. ¬ WordsMeet e.at at) words.now
+        × ((n : ℕ) → n < 8 → ¬ WordsMeet (tss_word tss n) at)) }
 {
     meets_none(words, at) && is_apart_from_tss(tss, at)
 }

@@ -7,5 +7,5 @@ ghost use Rattle.kc_regions.specs.Layout.{Laid};
 /// A law on the definitions, with nothing to run: what follows for stacks, guards, areas and words
 /// from the rules that a valid description keeps.
 pub fn layout()
-    ensures { (d : Description) → IsValid d → Laid d }
+    ensures laid { (d : Description) → IsValid d → Laid d }
 {}

@@ -51,21 +51,21 @@ pub struct Region {
 impl Kind {
     /// Whether it is an area.
     pub fn is_area(self) -> bool
-        ensures { result ≡ is_area self }
+        ensures is { result ≡ is_area self }
     {
         matches!(self, Kind::Area)
     }
 
     /// Whether it is a stack.
     pub fn is_stack(self) -> bool
-        ensures { result ≡ is_stack self }
+        ensures is { result ≡ is_stack self }
     {
         matches!(self, Kind::Stack)
     }
 
     /// Whether it is a guard.
     pub fn is_guard(self) -> bool
-        ensures { result ≡ is_guard self }
+        ensures is { result ≡ is_guard self }
     {
         matches!(self, Kind::Guard)
     }

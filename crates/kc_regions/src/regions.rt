@@ -72,7 +72,7 @@ impl Regions {
 
     /// The region that holds the address.
     pub fn of(&self, a: u64) -> Option<&Region>
-        ensures { option_copied result ≡ region_of self.now a }
+        ensures value { option_copied result ≡ region_of self.now a }
     {
         match index_of(self.list.as_slice(), self.order.as_slice(), a) {
             Some(i) => self.list.get(i),
@@ -82,7 +82,7 @@ impl Regions {
 
     /// The number of the stack that holds the address: stacks are counted in order of the list.
     pub fn stack_of(&self, a: u64) -> Option<u8>
-        ensures { result ≡ stack_of self.now a }
+        ensures value { result ≡ stack_of self.now a }
     {
         match index_of(self.list.as_slice(), self.order.as_slice(), a) {
             Some(i) => number_at(self.list.as_slice(), self.numbers.as_slice(), i),
@@ -100,7 +100,7 @@ impl Regions {
 
     /// The stack of this number, and None where there are not more than `s` stacks.
     pub fn stack(&self, s: u8) -> Option<&Region>
-        ensures { option_copied result ≡ stack_at self.now s }
+        ensures value { option_copied result ≡ stack_at self.now s }
     {
         self.list
             .as_slice()

@@ -3,7 +3,8 @@
 use Rattle.std.proofs.Common.{◌≡◌, Bool, true, false, List, [], ◌∷◌, Option, Some, Result, Ok, Err, ◌⊎◌, inl, inr, refl}
 use Rattle.kc_rules.specs.Rules.{refuse, ◌>>=◌, over}
 
-pub bind_ok : {A B E : Type 0} (r : Result A E) (f : A → Result B E) (y : B) → (r >>= f) ≡ Ok y → (x : A) × (r ≡ Ok x) × (f x ≡ Ok y)
+pub bind_ok : {A B E : Type 0} (r : Result A E) (f : A → Result B E) (y : B) → (r >>= f) ≡ Ok y → (x : A) × (r ≡ Ok x)
+    × (f x ≡ Ok y)
 bind_ok (Ok x) f y e = (x, refl, e)
 bind_ok (Err d) f y e = absurd cc
 
@@ -24,7 +25,8 @@ refuse_err false fault d e = absurd cc
 
 -- of two items, the second is added to what the first left
 pub over_ok : {A P E : Type 0} (add : A → P → Result A E) (gathered : A) (item : P) (items : List P) (y : A)
-    → over add gathered (item ∷ items) ≡ Ok y → (more : A) × (add gathered item ≡ Ok more) × (over add more items ≡ Ok y)
+    → over add gathered (item ∷ items) ≡ Ok y → (more : A) × (add gathered item ≡ Ok more)
+    × (over add more items ≡ Ok y)
 unfolding over
 over_ok add gathered item items y e = bind_ok (add gathered item) (λ more. over add more items) y e
 

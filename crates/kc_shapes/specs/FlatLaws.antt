@@ -4,7 +4,8 @@ use Rattle.std.proofs.lemmas.Bool.{cases_Bool, false≢true}
 use Rattle.kc_lattice.specs.Laws.{Laws, AllAlike}
 use Rattle.kc_shapes.specs.Flat.{AllValid, flat_below, flat_joined, flat_rank}
 
-module _ {A : Type 0} (same : A → A → Bool) (any : A) (same_is : (x y : A) → same x y ≡ true → x ≡ y) (same_refl : (x : A) → same x x ≡ true) where
+module _ {A : Type 0} (same : A → A → Bool) (any : A) (same_is : (x y : A) → same x y ≡ true → x ≡ y)
+    (same_refl : (x : A) → same x x ≡ true) where
   is_same : (x y : A) → x ≡ y → same x y ≡ true
   is_same x y e = ap (λ (z : A). same z y) e ∙ same_refl y
 
@@ -25,7 +26,8 @@ module _ {A : Type 0} (same : A → A → Bool) (any : A) (same_is : (x y : A) �
   ]
 
   -- a join is the first where the two are one, and any else
-  joined_cases : (x y : A) → ((x ≡ y) × (flat_joined same any x y ≡ x)) ⊎ ((same x y ≡ false) × (flat_joined same any x y ≡ any))
+  joined_cases : (x y : A) → ((x ≡ y) × (flat_joined same any x y ≡ x))
+      ⊎ ((same x y ≡ false) × (flat_joined same any x y ≡ any))
   joined_cases x y = elim (cases_Bool (same x y)) [
     | inl e ↦ inl (same_is x y e, ap (λ (b : Bool). cond b x any) e)
     | inr e ↦ inr (e, ap (λ (b : Bool). cond b x any) e)
@@ -55,7 +57,8 @@ module _ {A : Type 0} (same : A → A → Bool) (any : A) (same_is : (x y : A) �
     | inr p ↦ below_any y (flat_joined same any x y) p.1
   ]
 
-  least : (x y z : A) → flat_below same any x z ≡ true → flat_below same any y z ≡ true → flat_below same any (flat_joined same any x y) z ≡ true
+  least : (x y z : A) → flat_below same any x z ≡ true → flat_below same any y z ≡ true
+      → flat_below same any (flat_joined same any x y) z ≡ true
   least x y z h k = elim (joined_cases x y) [
     | inl p ↦ ap (λ (v : A). flat_below same any v z) p.1 ∙ h
     | inr p ↦ elim (below_cases x z h) [
@@ -111,7 +114,8 @@ module _ {A : Type 0} (same : A → A → Bool) (any : A) (same_is : (x y : A) �
   }
 
   -- what a value stands for, a greater one stands for too, where any stands for all
-  pub flat_grows : {C : Type 0} (holds : A → C → Type 0) → ((c : C) → holds any c) → (x y : A) (c : C) → flat_below same any x y ≡ true → holds x c → holds y c
+  pub flat_grows : {C : Type 0} (holds : A → C → Type 0) → ((c : C) → holds any c) → (x y : A) (c : C)
+      → flat_below same any x y ≡ true → holds x c → holds y c
   flat_grows holds all x y c h k = elim (below_cases x y h) [
     | inl p ↦ subst (λ (z : A). holds z c) (sym p) (all c)
     | inr e ↦ subst (λ (z : A). holds z c) e k

@@ -10,7 +10,8 @@ use Rattle.kc_lattice.specs.Rows.{rows_below, rows_joined}
 use Rattle.kc_lattice.specs.RowLaws.{rows_laws}
 use Rattle.kc_shapes.specs.ShapeLaws.{narrowed_laws}
 
-pub length-rows_joined : {A : Type 0} (R : A → A → Type 0) (f : A → A → A) (xs ys : List A) → AllZip R xs ys → length (rows_joined f xs ys) ≡ length xs
+pub length-rows_joined : {A : Type 0} (R : A → A → Type 0) (f : A → A → A) (xs ys : List A) → AllZip R xs ys
+    → length (rows_joined f xs ys) ≡ length xs
 length-rows_joined R f [] [] h = refl
 length-rows_joined R f [] (y ∷ ys) h = refl
 length-rows_joined R f (x ∷ xs) [] h = absurd h
@@ -23,13 +24,17 @@ all_alike_rows [] (y ∷ ys) e = absurd (omega (arith, e))
 all_alike_rows (x ∷ xs) [] e = absurd (omega (arith, e))
 all_alike_rows (x ∷ xs) (y ∷ ys) e = (tt, all_alike_rows xs ys (omega (arith, e)))
 
-module _ {A : Type 0} {valid : A → Type 0} {alike : A → A → Type 0} {below : A → A → Bool} {joined : A → A → A} {top_of : A → A} {rank : A → ℕ}
+module _ {A : Type 0} {valid : A → Type 0} {alike : A → A → Type 0} {below : A → A → Bool} {joined : A → A → A}
+    {top_of : A → A} {rank : A → ℕ}
     (m : Laws valid alike below joined top_of rank) where
-  pub counted_laws : (n : ℕ) → Laws (λ xs. All valid xs × (length xs ≡ n)) (AllZip alike) (rows_below below) (rows_joined joined) (map top_of) (sum_by rank)
-  counted_laws n = narrowed_laws (rows_laws m) (λ (xs : List A). length xs ≡ n) (λ xs ys hx hy h. length-rows_joined alike joined xs ys h ∙ hx)
+  pub counted_laws : (n : ℕ) → Laws (λ xs. All valid xs × (length xs ≡ n)) (AllZip alike) (rows_below below)
+      (rows_joined joined) (map top_of) (sum_by rank)
+  counted_laws n = narrowed_laws (rows_laws m) (λ (xs : List A). length xs ≡ n)
+      (λ xs ys hx hy h. length-rows_joined alike joined xs ys h ∙ hx)
       (λ xs h. length-map xs top_of ∙ h)
 
-  pub rows_rank-le : (bound : ℕ) → ((x : A) → valid x → rank x ≤ bound) → (xs : List A) → All valid xs → sum_by rank xs ≤ length xs * bound
+  pub rows_rank-le : (bound : ℕ) → ((x : A) → valid x → rank x ≤ bound) → (xs : List A) → All valid xs
+      → sum_by rank xs ≤ length xs * bound
   rows_rank-le bound each [] h = omega arith
   rows_rank-le bound each (x ∷ xs) h =
       let first : rank x ≤ bound = each x (All-head valid x xs h) in

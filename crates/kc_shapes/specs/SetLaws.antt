@@ -28,10 +28,12 @@ has_antisym : (x y : ℕ) → Has x y → Has y x → x ≡ y
 has_antisym x y h k = sym k ∙ and_comm y x ∙ h
 
 or_left : (x y : ℕ) → Has (bit_or x y) x
-or_left x y = same_from_bits (bit_and (bit_or x y) x) x (λ i. bit_at_and (bit_or x y) x i ∙ omega (arith, bit_at_or x y i))
+or_left x y =
+    same_from_bits (bit_and (bit_or x y) x) x (λ i. bit_at_and (bit_or x y) x i ∙ omega (arith, bit_at_or x y i))
 
 or_right : (x y : ℕ) → Has (bit_or x y) y
-or_right x y = same_from_bits (bit_and (bit_or x y) y) y (λ i. bit_at_and (bit_or x y) y i ∙ omega (arith, bit_at_or x y i))
+or_right x y =
+    same_from_bits (bit_and (bit_or x y) y) y (λ i. bit_at_and (bit_or x y) y i ∙ omega (arith, bit_at_or x y i))
 
 or_least : (x y z : ℕ) → Has z x → Has z y → Has z (bit_or x y)
 or_least x y z h k = same_from_bits (bit_and z (bit_or x y)) (bit_or x y) (λ i.
@@ -48,7 +50,8 @@ subset_le x y h = let k : bit_and y x ≤ y = and_le_l y x in omega (arith, k, s
 -- a number of a lesser set is one of a greater
 pub subset_bit : (x y i : ℕ) → is_subset x y ≡ true → bit_at x i ≡ 1 → bit_at y i ≡ 1
 subset_bit x y i h one =
-    let e : min (bit_at y i) (bit_at x i) ≡ bit_at x i = sym (bit_at_and y x i) ∙ ap (λ (v : ℕ). bit_at v i) (subset_fact x y h) in
+    let e : min (bit_at y i) (bit_at x i) ≡ bit_at x i = sym (bit_at_and y x i) ∙ ap (λ (v : ℕ). bit_at v i)
+    (subset_fact x y h) in
     omega (arith, e, one, bit_at-lt y i)
 
 pub set_rank-le : (n x : ℕ) → set_rank n x ≤ all_below n
@@ -63,9 +66,14 @@ added_fits n set k h below = or_lt n set (2 ^ k) h (pow_below k n below)
 
 pub added_bit : (set k i : ℕ) → (bit_at (bit_or set (2 ^ k)) i ≡ 1) ↔ ((bit_at set i ≡ 1) ⊎ (i ≡ k))
 added_bit set k i = elim (cases_eq i k) [
-  | inl e ↦ (λ h. inr e, λ h. let one : bit_at (2 ^ k) i ≡ 1 = ap (bit_at (2 ^ k)) e ∙ bit_at-pow_same k in omega (arith, bit_at_or set (2 ^ k) i, one, bit_at-lt set i))
+  | inl e ↦ (
+    λ h. inr e,
+    λ h. let one : bit_at (2 ^ k) i ≡ 1 = ap (bit_at (2 ^ k)) e ∙ bit_at-pow_same k in
+        omega (arith, bit_at_or set (2 ^ k) i, one, bit_at-lt set i),
+  )
   | inr e ↦
-      let same : bit_at (bit_or set (2 ^ k)) i ≡ bit_at set i = omega (arith, bit_at_or set (2 ^ k) i, bit_at-pow_other k i e) in
+      let same : bit_at (bit_or set (2 ^ k)) i ≡ bit_at set i =
+      omega (arith, bit_at_or set (2 ^ k) i, bit_at-pow_other k i e) in
       (λ h. inl (sym same ∙ h), λ h. elim h [ inl one ↦ same ∙ one | inr is ↦ absurd (e is) ])
 ]
 
@@ -81,7 +89,8 @@ set_laws n = record {
   join_valid = λ x y hx hy h. or_lt n x y hx hy;
   join_left = λ x y hx hy h. subset_from x (union x y) (or_left x y);
   join_right = λ x y hx hy h. subset_from y (union x y) (or_right x y);
-  join_least = λ x y z hx hy hz h k l. subset_from (union x y) z (or_least x y z (subset_fact x z k) (subset_fact y z l));
+  join_least =
+      λ x y z hx hy hz h k l. subset_from (union x y) z (or_least x y z (subset_fact x z k) (subset_fact y z l));
   top_valid = λ x h. omega (arith, h);
   top_above = λ x y hx hy h. subset_from y (all_below n) (has_all n y hy);
   rank_falls = λ x y hx hy h. omega (arith, subset_le x y h);

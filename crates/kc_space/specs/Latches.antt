@@ -34,7 +34,8 @@ TriStands Any set = Unit {0}
 
 abbrev pub latches_below : Latches → Latches → Bool
 latches_below lesser greater =
-    tri_below lesser.nmi_blocked greater.nmi_blocked && (tri_below lesser.shadow greater.shadow && tri_below lesser.mcip greater.mcip)
+    tri_below lesser.nmi_blocked greater.nmi_blocked
+    && (tri_below lesser.shadow greater.shadow && tri_below lesser.mcip greater.mcip)
 
 abbrev pub latches_joined : Latches → Latches → Latches
 latches_joined x y = record {

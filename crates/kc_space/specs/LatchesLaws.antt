@@ -45,7 +45,8 @@ abbrev of_parts : Both Tri (Both Tri Tri) → Latches
 of_parts b = record { nmi_blocked = b.first; shadow = b.second.first; mcip = b.second.second }
 
 pub latches_laws : Laws AllValid AllAlike latches_below latches_joined (λ x. latches_top) latches_rank
-latches_laws = reshaped_laws (both_laws tri_laws (both_laws tri_laws tri_laws)) parts of_parts (λ x. refl) (λ y. refl) AllValid
+latches_laws =
+    reshaped_laws (both_laws tri_laws (both_laws tri_laws tri_laws)) parts of_parts (λ x. refl) (λ y. refl) AllValid
     (λ x h. (tt, (tt, tt))) (λ y h. tt) (λ x y hx hy. (tt, (tt, tt)))
 
 pub latches_rank-le : (x : Latches) → latches_rank x ≤ 3

@@ -35,7 +35,8 @@ pub who_laws : Laws AllValid AllAlike who_below who_joined (λ x. Any) who_rank
 who_laws = flat_laws is_same_who Any same_who same_who-refl
 
 pub who_grows : (x y : Who) (env : SpaceEnv) (n : ℕ) → who_below x y ≡ true → WhoStands x env n → WhoStands y env n
-who_grows x y env n h k = flat_grows is_same_who Any same_who same_who-refl (λ (z : Who) (m : ℕ). WhoStands z env m) (λ m. tt) x y n h k
+who_grows x y env n h k =
+    flat_grows is_same_who Any same_who same_who-refl (λ (z : Who) (m : ℕ). WhoStands z env m) (λ m. tt) x y n h k
 
 pub who_rank-le : (x : Who) → who_rank x ≤ 1
 who_rank-le x = flat_rank-le is_same_who Any same_who same_who-refl x
@@ -60,7 +61,8 @@ pub map_laws : Laws AllValid AllAlike map_below map_joined (λ x. AnyMap) map_ra
 map_laws = flat_laws is_same_map AnyMap same_map same_map-refl
 
 pub map_grows : (x y : MapState) (env : SpaceEnv) (n : ℕ) → map_below x y ≡ true → MapStands x env n → MapStands y env n
-map_grows x y env n h k = flat_grows is_same_map AnyMap same_map same_map-refl (λ (z : MapState) (m : ℕ). MapStands z env m) (λ m. tt) x y n h k
+map_grows x y env n h k = flat_grows is_same_map AnyMap same_map same_map-refl
+    (λ (z : MapState) (m : ℕ). MapStands z env m) (λ m. tt) x y n h k
 
 pub map_rank-le : (x : MapState) → map_rank x ≤ 1
 map_rank-le x = flat_rank-le is_same_map AnyMap same_map same_map-refl x
@@ -73,7 +75,8 @@ abbrev of_parts : Both Who Who → GsPair
 of_parts b = record { active = b.first; inactive = b.second }
 
 pub gs_laws : Laws AllValid AllAlike gs_below gs_joined (λ x. gs_top) gs_rank
-gs_laws = reshaped_laws (both_laws who_laws who_laws) parts of_parts (λ x. refl) (λ y. refl) AllValid (λ x h. (tt, tt)) (λ y h. tt) (λ x y hx hy. (tt, tt))
+gs_laws = reshaped_laws (both_laws who_laws who_laws) parts of_parts (λ x. refl) (λ y. refl) AllValid (λ x h. (tt, tt))
+    (λ y h. tt) (λ x y hx hy. (tt, tt))
 
 pub gs_rank-le : (x : GsPair) → gs_rank x ≤ 2
 gs_rank-le x = omega (arith, who_rank-le x.active, who_rank-le x.inactive)

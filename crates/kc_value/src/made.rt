@@ -19,7 +19,7 @@ use kc_words::Width;
 impl Value {
     /// Nothing known: no symbol, no bit, and any place.
     pub fn top() -> Value
-        ensures { result ≡ value_top }
+        ensures value { result ≡ value_top }
     {
         Value {
             sym: Sym::Plain,

@@ -27,7 +27,7 @@ fn flag_if(set: bool, flag: u64) -> u64
 /// CF, PF, AF, ZF, SF and OF of `a + b` at width `w`, at their places in RFLAGS (Intel SDM vol. 2,
 /// "ADD"). Bits of `a` and `b` above the width don't count.
 pub fn add_flags(w: Width, a: u64, b: u64) -> u64
-    ensures { result ≡ sum_flags (bits_of w) a b }
+    ensures value { result ≡ sum_flags (bits_of w) a b }
 {
     let sum = a.wrapping_add(b);
     let carry = w.cut(sum) < w.cut(a);
@@ -39,7 +39,7 @@ pub fn add_flags(w: Width, a: u64, b: u64) -> u64
 /// CF, PF, AF, ZF, SF and OF of `a - b` at width `w`, at their places in RFLAGS (Intel SDM vol. 2,
 /// "SUB" and "CMP"). Bits of `a` and `b` above the width don't count.
 pub fn sub_flags(w: Width, a: u64, b: u64) -> u64
-    ensures { result ≡ difference_flags (bits_of w) a b }
+    ensures value { result ≡ difference_flags (bits_of w) a b }
 {
     let difference = a.wrapping_sub(b);
     let borrow = w.cut(a) < w.cut(b);

@@ -5,7 +5,7 @@ ghost use Rattle.kc_words.specs.LittleEndian.{little_endian};
 
 /// The number whose bytes are `bytes`, the least significant first.
 pub fn le64(bytes: &[u8; 8]) -> u64
-    ensures { result ≡ little_endian bytes.now }
+    ensures value { result ≡ little_endian bytes.now }
 {
     u64::from_le_bytes(*bytes)
 }

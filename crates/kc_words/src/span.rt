@@ -29,14 +29,14 @@ impl Model for Span {
 impl Span {
     /// Whether `from <= a < to`.
     pub fn holds(&self, a: u64) -> bool
-        ensures { IsTrue result ↔ Holds self.now a }
+        ensures is { IsTrue result ↔ Holds self.now a }
     {
         self.from <= a && a < self.to
     }
 
     /// Whether some byte lies in both.
     pub fn meets(&self, other: &Span) -> bool
-        ensures { IsTrue result ↔ Meets self.now other.now }
+        ensures is { IsTrue result ↔ Meets self.now other.now }
     {
         self.from.max(other.from) < self.to.min(other.to)
     }

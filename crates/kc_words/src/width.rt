@@ -17,7 +17,7 @@ pub enum Width {
 impl Width {
     /// 8, 32 or 64.
     pub fn bits(self) -> u32
-        ensures { result ≡ bits_of self }
+        ensures value { result ≡ bits_of self }
     {
         match self {
             Width::Byte => 8,
@@ -28,7 +28,7 @@ impl Width {
 
     /// The low bits of `v` that an operand of this width takes, with 0 above them.
     pub fn cut(self, v: u64) -> u64
-        ensures { result ≡ cut self v }
+        ensures value { result ≡ cut self v }
     {
         match self {
             Width::Byte => v & 0xFF,
@@ -39,7 +39,7 @@ impl Width {
 
     /// Whether the top bit of an operand of this width is set in `v`.
     pub fn is_negative(self, v: u64) -> bool
-        ensures { result ≡ (sign (bits_of self) v == 1) }
+        ensures is { result ≡ (sign (bits_of self) v == 1) }
     {
         (v >> (self.bits() - 1)) & 1 == 1
     }

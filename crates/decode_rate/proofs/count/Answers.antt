@@ -11,10 +11,18 @@ loop-len-preserved c =
     let bytes = c.args.bytes.now in
     let at = c.loop-len.at in
     let len = c.in-Ok.len in
-    let found = subst (λ l. (len ≤ length l) × Spells (take len l) at c.in-Ok.field-0-0) (take_rest bytes at) c.in-Ok.ensures.found in
+    let found = subst (λ l. (len ≤ length l) × Spells (take len l) at c.in-Ok.field-0-0) (take_rest bytes at)
+    c.in-Ok.ensures.found in
     let end : at + c.from-at.result ≡ at + len = ap (λ n. at + n) c.from-at.ensures in
-    let within : at + c.from-at.result ≤ length bytes = omega (arith, found.0, length-drop at bytes, c.loop-len.invariant.1, end) in
-    let longer : c.loop-len.instructions + 1 ≤ at + c.from-at.result = omega (arith, c.in-Ok.ensures.length.0, c.loop-len.invariant.2, end) in
+    let within : at + c.from-at.result ≤ length bytes = omega (
+      arith,
+      found.0,
+      length-drop at bytes,
+      c.loop-len.invariant.1,
+      end,
+    ) in
+    let longer : c.loop-len.instructions + 1 ≤ at + c.from-at.result =
+    omega (arith, c.in-Ok.ensures.length.0, c.loop-len.invariant.2, end) in
     let more : AreInstructions bytes (suc c.loop-len.instructions) (at + c.from-at.result) =
     (at, len, c.in-Ok.field-0-0, c.loop-len.invariant.0, end, within, found.1) in
     let one : suc c.loop-len.instructions ≡ c.loop-len.instructions + 1 = omega arith in

@@ -10,4 +10,5 @@ use Rattle.kc_config.proofs.cpu.find_each.Given as goal
 abbrev pub invariant-loop-form : goal.invariant-loop-form
 invariant-loop-form l =
     every (λ (f : Spelling). meant l.image.symbols (spelled f)) l.forms
-    ≡ joined (map sum l.sums.items) (every (λ (f : Spelling). meant l.image.symbols (spelled f)) (drop l.form-index l.forms))
+    ≡ joined (map sum l.sums.items) (every (λ (f : Spelling). meant l.image.symbols (spelled f))
+    (drop l.form-index l.forms))

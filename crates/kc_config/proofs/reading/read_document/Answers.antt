@@ -8,4 +8,5 @@ returns-in-Ok c = document_is c.args.text.now _ c.in-Ok.ensures.ok.0 c.in-Ok.ens
 
 pub returns-else-is_memory : goal.returns-else-is_memory
 returns-else-is_memory c =
-    inr (syntax_is c.args.text.now (c.in-Err.ensures.refused (λ memory. false≢true (sym c.if-is_memory.false ∙ c.is_memory.ensures.1 memory))))
+    inr (syntax_is c.args.text.now
+    (c.in-Err.ensures.refused (λ memory. false≢true (sym c.if-is_memory.false ∙ c.is_memory.ensures.1 memory))))

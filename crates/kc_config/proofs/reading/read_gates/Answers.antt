@@ -13,7 +13,8 @@ loop-i-preserved c =
     let before = c.loop-i.invariant in
     let pushed = c.in_ok-push.ensures.items in
     record {
-      read = each_more gate (λ i. InGate i) c.args.image.now.symbols c.args.tables.now c.loop-i.i c.index-tables-i.result
+      read =
+          each_more gate (λ i. InGate i) c.args.image.now.symbols c.args.tables.now c.loop-i.i c.index-tables-i.result
           c.loop-i.gates.items c.push.new.self.items _ _
           c.loop-i-test.true c.index-tables-i.is before.count c.in_ok-read_gate.ensures.read pushed before.read;
       count = one_longer c.loop-i.gates.items c.push.new.self.items _ c.loop-i.i pushed before.count;
@@ -27,9 +28,11 @@ returns-in_err-read_gate-clause-read c =
     rw (exit.1, exit.2)
     (each_stops gate (λ i. InGate i) c.args.image.now.symbols c.args.tables.now c.loop-i.i c.index-tables-i.result
     c.loop-i.gates.items c.in_err-read_gate.field-0.0 _
-    c.loop-i-test.true c.index-tables-i.is c.loop-i.invariant.count c.in_err-read_gate.ensures.read c.loop-i.invariant.read)
+    c.loop-i-test.true c.index-tables-i.is c.loop-i.invariant.count c.in_err-read_gate.ensures.read
+    c.loop-i.invariant.read)
 
 pub returns-clause-read : goal.returns-clause-read
 returns-clause-read c =
-    over_done (add_table gate (λ i. InGate i) c.args.image.now.symbols) members_now c.args.tables.now c.loop-i.i c.loop-i.gates.items _
+    over_done (add_table gate (λ i. InGate i) c.args.image.now.symbols) members_now c.args.tables.now c.loop-i.i
+    c.loop-i.gates.items _
     c.loop-i-test.false c.loop-i.invariant.read

@@ -13,7 +13,8 @@ loop-i-preserved c =
     let before = c.loop-i.invariant in
     let pushed = c.in_ok-push.ensures.items in
     record {
-      read = each_more tracked_word (λ i. InWord i) c.args.image.now.symbols c.args.tables.now c.loop-i.i c.index-tables-i.result
+      read = each_more tracked_word (λ i. InWord i) c.args.image.now.symbols c.args.tables.now c.loop-i.i
+          c.index-tables-i.result
           c.loop-i.words.items c.push.new.self.items _ _
           c.loop-i-test.true c.index-tables-i.is before.count c.in_ok-read_word.ensures.read pushed before.read;
       count = one_longer c.loop-i.words.items c.push.new.self.items _ c.loop-i.i pushed before.count;
@@ -25,11 +26,14 @@ pub returns-in_err-read_word-clause-read : goal.returns-in_err-read_word-clause-
 returns-in_err-read_word-clause-read c =
     let exit = err_from_is_err_and c.from_residual.result c.from_residual.ensures.1 in
     rw (exit.1, exit.2)
-    (each_stops tracked_word (λ i. InWord i) c.args.image.now.symbols c.args.tables.now c.loop-i.i c.index-tables-i.result
+    (each_stops tracked_word (λ i. InWord i) c.args.image.now.symbols c.args.tables.now c.loop-i.i
+    c.index-tables-i.result
     c.loop-i.words.items c.in_err-read_word.field-0.0 _
-    c.loop-i-test.true c.index-tables-i.is c.loop-i.invariant.count c.in_err-read_word.ensures.read c.loop-i.invariant.read)
+    c.loop-i-test.true c.index-tables-i.is c.loop-i.invariant.count c.in_err-read_word.ensures.read
+    c.loop-i.invariant.read)
 
 pub returns-clause-read : goal.returns-clause-read
 returns-clause-read c =
-    over_done (add_table tracked_word (λ i. InWord i) c.args.image.now.symbols) members_now c.args.tables.now c.loop-i.i c.loop-i.words.items _
+    over_done (add_table tracked_word (λ i. InWord i) c.args.image.now.symbols) members_now c.args.tables.now c.loop-i.i
+    c.loop-i.words.items _
     c.loop-i-test.false c.loop-i.invariant.read

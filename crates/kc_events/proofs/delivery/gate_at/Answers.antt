@@ -7,4 +7,4 @@ use Rattle.kc_events.proofs.delivery.gate_at.Goals as goal
 pub returns-clause-ist : goal.returns-clause-ist
 returns-clause-ist c =
     let found : gate_of c.args.cfg.now.gates c.args.vector ≡ Some c.in-Some.gate = search rules in
-    ist-range c.args.cfg.now c.args.vector c.in-Some.gate c.tell.ensures found
+    ist-range c.args.cfg.now c.args.vector c.in-Some.gate c.tell.ensures.valid found

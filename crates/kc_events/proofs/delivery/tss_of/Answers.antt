@@ -4,4 +4,5 @@ use Rattle.kc_events.proofs.RangeLemmas.{tss-fits}
 use Rattle.kc_events.proofs.delivery.tss_of.Goals as goal
 
 pub returns-clause-fits : goal.returns-clause-fits
-returns-clause-fits c = omega (arith, tss-fits c.args.cfg.now c.tell.ensures, ap (λ (d : Description). d.cpu.tss) c.cfg.view_is)
+returns-clause-fits c =
+    omega (arith, tss-fits c.args.cfg.now c.tell.ensures.valid, ap (λ (d : Description). d.cpu.tss) c.cfg.view_is)

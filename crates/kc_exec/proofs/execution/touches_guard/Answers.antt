@@ -11,5 +11,6 @@ loop-preserved c =
     let regions = c.args.cfg.now.regions in
     let a = c.loop.a in
     let rest = guarded regions (next a) (c.args.size - (c.loop.counter + 1)) in
-    c.loop.invariant ∙ guarded-step regions a (c.args.size - c.loop.counter) (c.args.size - (c.loop.counter + 1)) (omega arith)
-    ∙ ap (λ (b : Bool). b || rest) (sym c.is_guard.ensures ∙ c.if-is_guard.false)
+    c.loop.invariant ∙ guarded-step regions a (c.args.size - c.loop.counter) (c.args.size - (c.loop.counter + 1))
+    (omega arith)
+    ∙ ap (λ (b : Bool). b || rest) (sym c.is_guard.ensures.is ∙ c.if-is_guard.false)

@@ -6,5 +6,6 @@ use Rattle.kc_frames.proofs.redo.redo_each.Given as goal
 abbrev pub invariant-loop-i : goal.invariant-loop-i
 invariant-loop-i g l = record {
   count : length l.items ≤ slot_count;
-  whole : take l.i l.items ++ redone (g.C.Change.changed l.change) l.i (drop l.i l.items) ≡ redone (g.C.Change.changed l.change) 0 l.initial.items;
+  whole : take l.i l.items ++ redone (g.C.Change.changed l.change) l.i (drop l.i l.items)
+      ≡ redone (g.C.Change.changed l.change) 0 l.initial.items;
 }

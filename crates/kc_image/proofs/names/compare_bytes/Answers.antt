@@ -9,7 +9,8 @@ pub returns-then-first-i : goal.returns-then-first-i
 returns-then-first-i c =
     let end = c.min-i-end.ensures in
     c.cmp.ensures
-    ∙ sym (differ_at c.args.first.now c.args.second.now c.loop-i.i (omega (arith, end)) (omega (arith, end)) c.if-first-i.true)
+    ∙ sym (differ_at c.args.first.now c.args.second.now c.loop-i.i (omega (arith, end)) (omega (arith, end))
+    c.if-first-i.true)
     ∙ c.loop-i.invariant
 
 pub returns-then-first-i-eq0 : goal.returns-then-first-i-eq0

@@ -8,7 +8,7 @@ pub join-requires : goal.join-requires
 join-requires g c =
     bound_alike g.met.D.Domain.laws c.args.total.now c.item-item.result c.loop-item.total
     (take c.loop-item.item-index c.args.items.now)
-    c.tell-in-loop-item.ensures (subst (g.D.Domain.alike c.args.total.now) (sym c.item-item.is)
+    c.tell-in-loop-item.ensures.valid (subst (g.D.Domain.alike c.args.total.now) (sym c.item-item.is)
     (c.requires c.loop-item.item-index c.item-item.result c.loop-item-test.true))
     c.loop-item.invariant.1
 
@@ -22,9 +22,9 @@ loop-item-preserved g c =
     take_read c.args.items.now c.loop-item.item-index x c.loop-item-test.true c.item-item.is in
     let alike = subst (m.alike first) (sym c.item-item.is)
     (c.requires c.loop-item.item-index x c.loop-item-test.true) in
-    let more = IsBound-more g.met.D.Domain.laws first x c.loop-item.total xs c.tell-in-loop-item.ensures alike
+    let more = IsBound-more g.met.D.Domain.laws first x c.loop-item.total xs c.tell-in-loop-item.ensures.valid alike
     c.loop-item.invariant.1 in
-    rw (now, c.join.ensures) (
+    rw (now, c.join.ensures.value) (
       ap (λ (z : _). m.joined z x) c.loop-item.invariant.0
           ∙ sym (fold-append m.joined first xs (x ∷ [])),
       more,

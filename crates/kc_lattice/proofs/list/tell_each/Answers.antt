@@ -9,8 +9,10 @@ loop-item-preserved g c =
     let xs = c.args.items.now in
     let valid = g.V.Domain.valid in
     All-same valid _ _ (take_read xs c.loop-item.item-index c.item-item.result c.loop-item-test.true c.item-item.is)
-    (All-push valid (take c.loop-item.item-index xs) c.item-item.result c.loop-item.invariant c.tell.ensures)
+    (All-push valid (take c.loop-item.item-index xs) c.item-item.result c.loop-item.invariant c.tell.ensures.valid)
 
 pub returns : goal.returns
-returns g c = All-same g.V.Domain.valid _ _ (sym
-    (take_all c.loop-item.item-index c.args.items.now c.loop-item-test.false)) c.loop-item.invariant
+returns g c = record {
+  valid = All-same g.V.Domain.valid _ _ (sym (take_all c.loop-item.item-index c.args.items.now c.loop-item-test.false))
+      c.loop-item.invariant;
+}

@@ -9,7 +9,8 @@ gone c (i, at) = none_in_gap c.args.pages.now c.args.number c.in-Err.field-0 c.i
 
 pub returns-in_err-push-clause-absent : goal.returns-in_err-push-clause-absent
 returns-in_err-push-clause-absent c = λ absent.
-    All-same (λ n. ¬ HasPage c.args.pages.now n) c.push.new.self.items c.args.numbers.now.items c.in_err-push.ensures.items absent
+    All-same (λ n. ¬ HasPage c.args.pages.now n) c.push.new.self.items c.args.numbers.now.items
+    c.in_err-push.ensures.items absent
 
 pub returns-in_ok-push-clause-absent : goal.returns-in_ok-push-clause-absent
 returns-in_ok-push-clause-absent c = λ absent.

@@ -19,7 +19,8 @@ is_at c = subst (λ n. IsAt c.args.pages.now.items n c.in-Ok.at) (sym (number c)
 pub returns-in-Ok-clause-pages : goal.returns-in-Ok-clause-pages
 returns-in-Ok-clause-pages c =
     let page = c.index_mut.result.now in
-    let whole : IsWhole page = subst IsWhole (sym c.index_mut.ensures.value) (c.requires.pages.whole c.in-Ok.at page (found c).in_range) in
+    let whole : IsWhole page = subst IsWhole (sym c.index_mut.ensures.value)
+    (c.requires.pages.whole c.in-Ok.at page (found c).in_range) in
     pages_set _ _ c.in-Ok.at (is_at c) (whole_set page _ _ _ c.ranges.v.fits refl whole) c.requires.pages
 
 pub returns-in-Ok-clause-numbers : goal.returns-in-Ok-clause-numbers

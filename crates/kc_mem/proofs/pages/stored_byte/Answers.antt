@@ -10,7 +10,8 @@ returns-in-Ok c =
     let whole = c.requires.whole c.in-Ok.at c.index-pages-at.result found.in_range in
     let within : c.args.a % 4096 < length page.bytes.items = omega (arith, whole.size) in
     c.index.ensures ∙ get_or_default page.bytes.items (c.args.a % 4096) c.index.result.now 0 within
-    ∙ sym (stored_present c.args.pages.now c.args.a c.in-Ok.at c.index-pages-at.result found (none_before_at _ c.requires.rising _ _ found))
+    ∙ sym (stored_present c.args.pages.now c.args.a c.in-Ok.at c.index-pages-at.result found
+    (none_before_at _ c.requires.rising _ _ found))
 
 pub returns-in-Err : goal.returns-in-Err
 returns-in-Err c = sym (stored_absent c.args.pages.now c.args.a (none_in_gap _ _ _ c.in-Err.ensures.absent))

@@ -5,4 +5,9 @@ use Rattle.kc_regions.proofs.order.numbers_of.Goals as goal
 
 pub overflow_add-count : goal.overflow_add-count
 overflow_add-count c =
-    omega (arith, c.loop-region.invariant.1, few-pass (λ r. is_stack r.kind) c.args.list.now c.loop-region.region-index, c.requires)
+    omega (
+      arith,
+      c.loop-region.invariant.1,
+      few-pass (λ r. is_stack r.kind) c.args.list.now c.loop-region.region-index,
+      c.requires,
+    )

@@ -10,4 +10,5 @@ returns c =
     let to = c.sort.new.order in
     let is = c.as_mut_slice.ensures.value in
     subst (IsOrder c.args.list.now) (sym (refilled from to (c.sort.ensures.length ∙ ap length is)))
-    (order-is c.args.list.now from to c.indexes-order.ensures (subst (λ xs. IsPermutation xs to) is c.sort.ensures.permutation) c.sort.ensures.rising)
+    (order-is c.args.list.now from to c.indexes-order.ensures
+    (subst (λ xs. IsPermutation xs to) is c.sort.ensures.permutation) c.sort.ensures.rising)

@@ -13,7 +13,7 @@ returns-then-set-s-eq1 c =
     let read : c.index-stacks-s.result ≡ stack_at stacks c.loop-s.s =
     c.index-stacks-s.is ∙ get_or_default stacks c.loop-s.s c.index-stacks-s.result no_addresses
     (omega (arith, c.type_inv.stacks, c.loop-s-test.true)) in
-    let here = c.holds.ensures.0 c.if-holds.true in
+    let here = c.holds.ensures.is.0 c.if-holds.true in
     let holds = subst (λ (r : Range). Holds r c.args.n) (sym c.index-stacks-s.is ∙ read) here in (
       λ _. (
         Some c.loop-s.s,

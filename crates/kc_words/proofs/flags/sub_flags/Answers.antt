@@ -11,17 +11,17 @@ returns c =
     let n : ℕ = bits_of c.args.w in
     let range = bits_in_range c.args.w in
     let fits : b < 2 ^ 64 = omega arith in
-    let borrow : ltb c.cut.result c.cut-2.result ≡ borrows n a b = rw (c.cut.ensures, c.cut-2.ensures) in
+    let borrow : ltb c.cut.result c.cut-2.result ≡ borrows n a b = rw (c.cut.ensures.value, c.cut-2.ensures.value) in
     let cf : c.flag_if.result ≡ flag 0 (borrows n a b) = c.flag_if.ensures.value
     ∙ ap (λ (s : Bool). cond s 1 0) borrow in
     let af : c.flag_if-2.result ≡ flag 4 (borrows 4 a b) = c.flag_if-2.ensures.value
     ∙ ap (λ (s : Bool). cond s 16 0) (half_borrow a b) in
     let overflow : c.is_negative-overflow.result ≡ overflows n b (difference n a b) a =
-    c.is_negative-overflow.ensures ∙ overflows-mask_minus 64 n a b (omega arith) range.1 fits in
+    c.is_negative-overflow.ensures.is ∙ overflows-mask_minus 64 n a b (omega arith) range.1 fits in
     let of : c.flag_if-3.result ≡ flag 11 (overflows n b (difference n a b) a) =
     c.flag_if-3.ensures.value ∙ ap (λ (s : Bool). cond s 2048 0) overflow in
     let whole : ℕ = (a + (2 ^ 64 - b)) % 2 ^ 64 in
     let rest : c.logic_flags.result ≡ result_flags n (difference n a b) =
     c.logic_flags.ensures.value ∙ sym (result_flags-mod n n whole range.0 (omega arith))
     ∙ ap (result_flags n) (difference-mod 64 n a b range.1 fits) in
-    rw (cf, af, of, rest)
+    record { value = rw (cf, af, of, rest) }

@@ -15,17 +15,17 @@ unfolding made
 value c =
     let inside : KnownBits = record { zeros = c.self.inside.zeros; ones = c.self.inside.ones } in
     let zeros : bit_or c.cut.result (2 ^ 64 - 1 - c.cut-above.result) ≡ (bits_cut (bits_of c.args.width) inside).zeros =
-    ap (λ (x : ℕ). bit_or x (flipped c.cut-above.result)) c.cut.ensures
-    ∙ ap (λ (x : ℕ). bit_or (cut c.args.width c.self.inside.zeros) (flipped x)) c.cut-above.ensures
+    ap (λ (x : ℕ). bit_or x (flipped c.cut-above.result)) c.cut.ensures.value
+    ∙ ap (λ (x : ℕ). bit_or (cut c.args.width c.self.inside.zeros) (flipped x)) c.cut-above.ensures.value
     ∙ cut_zeros c.args.width c.self.inside.zeros in
-    same_bits (made c) (bits_cut (bits_of c.args.width) inside) zeros c.cut-2.ensures
+    same_bits (made c) (bits_cut (bits_of c.args.width) inside) zeros c.cut-2.ensures.value
     ∙ ap (bits_cut (bits_of c.args.width)) c.self.view_is
 
 pub invariant_of-result : goal.invariant_of-result
 unfolding made
 invariant_of-result c =
     subst (λ (r : KnownBits). bit_and r.zeros r.ones ≡ 0) (sym (value c))
-    (cut_apart c.args.width c.args.self.now c.tell.ensures)
+    (cut_apart c.args.width c.args.self.now c.tell.ensures.valid)
 
 pub returns : goal.returns
 unfolding made

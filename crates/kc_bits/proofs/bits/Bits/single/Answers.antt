@@ -9,6 +9,6 @@ pub returns-then-open-eq0-clause-only : goal.returns-then-open-eq0-clause-only
 returns-then-open-eq0-clause-only c =
     let ones : c.self.inside.ones ≡ c.args.self.now.ones = ap (λ (b : KnownBits). b.ones) c.self.view_is in
     rw ones (
-      least_stands c.args.self.now c.tell.ensures,
-      λ n h s. known_only c.args.self.now n c.tell.ensures h (sym c.unknown-open.ensures ∙ c.if-open-eq0.true) s,
+      least_stands c.args.self.now c.tell.ensures.valid,
+      λ n h s. known_only c.args.self.now n c.tell.ensures.valid h (sym c.unknown-open.ensures ∙ c.if-open-eq0.true) s,
     )

@@ -10,7 +10,7 @@ returns-clause-sound c =
     let b = c.args.other.now in
     let value : c.known_but.result ≡ bits_sub a b = search rules in
     subst (λ (r : KnownBits). IsSound (λ (x : ℕ) (y : ℕ). word (x + (2 ^ 64 - y))) a b r) (sym value)
-    (sub_sound a b c.tell.ensures c.tell-2.ensures)
+    (sub_sound a b c.tell.ensures.valid c.tell-2.ensures.valid)
 
 pub returns-clause-monotone : goal.returns-clause-monotone
-returns-clause-monotone c = sub_monotone c.args.self.now c.args.other.now c.tell.ensures c.tell-2.ensures
+returns-clause-monotone c = sub_monotone c.args.self.now c.args.other.now c.tell.ensures.valid c.tell-2.ensures.valid

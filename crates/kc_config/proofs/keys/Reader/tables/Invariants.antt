@@ -10,4 +10,5 @@ use Rattle.kc_config.proofs.keys.Reader.tables.Given as goal
 abbrev pub invariant-loop-item : goal.invariant-loop-item
 invariant-loop-item l =
     every (λ (v : Value). as_table (view v)) l.item-items
-    ≡ joined (map (λ (t : Bor (BTreeMap (String Global) Value)). table_view t.now) l.tables.items) (every (λ (v : Value). as_table (view v)) (drop l.item-index l.item-items))
+    ≡ joined (map (λ (t : Bor (BTreeMap (String Global) Value)). table_view t.now) l.tables.items)
+    (every (λ (v : Value). as_table (view v)) (drop l.item-index l.item-items))

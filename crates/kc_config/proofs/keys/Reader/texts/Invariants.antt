@@ -10,4 +10,5 @@ use Rattle.kc_config.proofs.keys.Reader.texts.Given as goal
 abbrev pub invariant-loop-item : goal.invariant-loop-item
 invariant-loop-item l =
     every (λ (v : Value). as_str (view v)) l.item-items
-    ≡ joined (map (λ (t : Bor (List ℕ)). t.now) l.texts.items) (every (λ (v : Value). as_str (view v)) (drop l.item-index l.item-items))
+    ≡ joined (map (λ (t : Bor (List ℕ)). t.now) l.texts.items)
+    (every (λ (v : Value). as_str (view v)) (drop l.item-index l.item-items))

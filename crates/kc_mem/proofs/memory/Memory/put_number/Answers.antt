@@ -5,8 +5,10 @@ use Rattle.kc_mem.proofs.memory.Memory.put_number.Goals as goal
 
 pub loop-preserved : goal.loop-preserved
 loop-preserved c = (
-  ap (λ (m : Bytes). write m (next c.loop.at) (c.args.size - (c.loop.counter + 1)) (c.loop.rest / 256)) c.write1.ensures.bytes
-      ∙ write_more c.loop.self.bytes c.loop.at c.args.size c.loop.counter c.loop.rest c.loop-test.true ∙ c.loop.invariant.0,
+  ap (λ (m : Bytes). write m (next c.loop.at) (c.args.size - (c.loop.counter + 1)) (c.loop.rest / 256))
+      c.write1.ensures.bytes
+      ∙ write_more c.loop.self.bytes c.loop.at c.args.size c.loop.counter c.loop.rest c.loop-test.true
+      ∙ c.loop.invariant.0,
   omega (arith, c.write1.ensures.spare, c.loop.invariant.1),
 )
 

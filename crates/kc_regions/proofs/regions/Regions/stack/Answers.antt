@@ -4,4 +4,7 @@ use Rattle.std.proofs.lemmas.Iterator.Consumers.{nth_from_yields_List, YieldsLis
 use Rattle.kc_regions.proofs.regions.Regions.stack.Goals as goal
 
 pub returns : goal.returns
-returns c = nth_from_yields_List _ _ _ c.nth.ensures.ran (YieldsList-from_filter _ _ (YieldsList-from_slice c.args.self.now cc) c.filter.ensures.closure (λ x r q k. search (rules, tests)))
+returns c = record {
+  value = nth_from_yields_List _ _ _ c.nth.ensures.ran (YieldsList-from_filter _ _
+      (YieldsList-from_slice c.args.self.now cc) c.filter.ensures.closure (λ x r q k. search (rules, tests)));
+}
