@@ -7,5 +7,6 @@ pub mod FormSteps
 pub mod Straight
 pub mod Letters
 pub mod Machine
+pub mod Work
 pub mod Output
 pub mod OutputSteps

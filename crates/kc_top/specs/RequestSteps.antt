@@ -1,6 +1,11 @@
 -- The request that the code holds, as the names alone.
-use Rattle.kc_top.specs.declared.request.CheckFiles.{CheckFiles}
-use Rattle.kc_top.specs.Words.{Request, Check}
+use Rattle.kc_top.specs.declared.request.Inputs.{Inputs as InputNames}
+use Rattle.kc_top.specs.declared.request.Request.{Request as Named}
+use Rattle.kc_top.specs.declared.request.Request.TheVariants.{Check as CheckNamed}
+use Rattle.kc_top.specs.Words.{Inputs, Request, Check}
 
-abbrev pub names_of : CheckFiles → Request
-names_of files = Check files.image.now files.config.now files.cert.now
+abbrev pub inputs_of : InputNames → Inputs
+inputs_of names = record { image = names.image.now; config = names.config.now }
+
+abbrev pub asked : Named → Request
+asked (CheckNamed names cert) = Check (inputs_of names) cert.now

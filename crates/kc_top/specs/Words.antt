@@ -2,9 +2,14 @@
 use Rattle.std.specs.Prelude.{ℕ, Bool, true, List, [], ◌∷◌, Option, Some, None, bytes_eq, codes, if◌then◌else◌, ◌==◌}
 use Rattle.std.specs.List.{list_any}
 
--- a mode with the names of its files
+-- the names of the files that a mode begins with
+pub record Inputs : Type 0 where
+  pub image : List ℕ
+  pub config : List ℕ
+
+-- a mode with its operands
 pub data Request : Type 0 where
-  Check : List ℕ → List ℕ → List ℕ → Request
+  Check : Inputs → List ℕ → Request
 
 -- a word that is neither a mode nor an operand: it is empty or begins with `-`
 abbrev pub is_faulty : List ℕ → Bool
@@ -13,7 +18,7 @@ is_faulty (c ∷ cs) = c == 45
 
 -- `check IMAGE CONFIG CERT`
 abbrev pub check_of : List (List ℕ) → Option Request
-check_of (image ∷ config ∷ cert ∷ []) = Some (Check image config cert)
+check_of (image ∷ config ∷ cert ∷ []) = Some (Check (record { image = image; config = config }) cert)
 check_of operands = None
 
 -- by the first word, the mode

@@ -1,16 +1,19 @@
 //! The program as one call: from words and files to a status and what is written.
 #![tactic(auto)]
 
+mod check;
 mod command;
 mod form;
 mod letters;
 mod lines;
 mod memory;
+mod operand;
 mod outcome;
 mod process;
 mod reading;
 mod request;
 mod status;
+mod stop;
 mod straight;
 mod words;
 

@@ -1,12 +1,15 @@
 //! The lines that the program prints.
 
-ghost use Rattle.std.specs.Prelude.{◌≡◌, IfOk, string_bytes};
+ghost use Rattle.std.specs.Prelude.{◌≡◌, IfOk, Some, string_bytes};
 ghost use Rattle.kc_top.specs.Lines.{kind_text, address_text, bad_image_line, accepted_line, refused_table_line};
 ghost use Rattle.kc_top.specs.Lines.{refused_node_line};
-ghost use Rattle.kc_top.specs.Output.{read_fault, too_large, bad_image, bad_config, bad_cert, verdict};
+ghost use Rattle.kc_top.specs.Work.{read_fault, too_large};
+ghost use Rattle.kc_top.specs.Output.{bad_image, bad_config, bad_cert, verdict};
+ghost use Rattle.kc_top.specs.OutputSteps.{outcome_of};
 
 use crate::form::{FormFault, FormKind};
 use crate::letters::Refusal;
+use crate::stop::Stop;
 use crate::{Outcome, Status};
 use kc_plain::{NoMemory, Text};
 use std::alloc::Global;
@@ -16,7 +19,7 @@ pub const USAGE: &str =
     "usage: entrycert check IMAGE CONFIG CERT, find IMAGE CONFIG, explain IMAGE CONFIG [CERT], replay IMAGE CONFIG TRACE, gen SEED SIZE\n";
 
 /// A read of the named file failed.
-pub fn read_fault(alloc: Global, name: &str) -> Result<Outcome, NoMemory>
+fn read_fault(alloc: Global, name: &str) -> Result<Outcome, NoMemory>
     ensures { IfOk result (λ o. o ≡ read_fault name.now) }
 {
     let text = format!(in alloc; "read fault {name}\n")?;
@@ -27,7 +30,7 @@ pub fn read_fault(alloc: Global, name: &str) -> Result<Outcome, NoMemory>
 }
 
 /// The named file is larger than its limit.
-pub fn too_large(alloc: Global, name: &str) -> Result<Outcome, NoMemory>
+fn too_large(alloc: Global, name: &str) -> Result<Outcome, NoMemory>
     ensures { IfOk result (λ o. o ≡ too_large name.now) }
 {
     let text = format!(in alloc; "too large {name}\n")?;
@@ -58,7 +61,7 @@ fn bad_image_text(alloc: Global, fault: FormFault) -> Result<String, NoMemory>
 }
 
 /// The image isn't in its form.
-pub fn bad_image(alloc: Global, fault: FormFault) -> Result<Outcome, NoMemory>
+fn bad_image(alloc: Global, fault: FormFault) -> Result<Outcome, NoMemory>
     ensures { IfOk result (λ o. o ≡ bad_image (fault.kind, fault.at)) }
 {
     let text = bad_image_text(alloc, fault)?;
@@ -69,7 +72,7 @@ pub fn bad_image(alloc: Global, fault: FormFault) -> Result<Outcome, NoMemory>
 }
 
 /// The configuration isn't empty.
-pub fn bad_config(alloc: Global) -> Result<Outcome, NoMemory>
+fn bad_config(alloc: Global) -> Result<Outcome, NoMemory>
     ensures { IfOk result (λ o. o ≡ bad_config tt) }
 {
     Ok(Outcome {
@@ -79,7 +82,7 @@ pub fn bad_config(alloc: Global) -> Result<Outcome, NoMemory>
 }
 
 /// A byte of the certificate is no letter.
-pub fn bad_cert(alloc: Global, at: usize) -> Result<Outcome, NoMemory>
+fn bad_cert(alloc: Global, at: usize) -> Result<Outcome, NoMemory>
     ensures { IfOk result (λ o. o ≡ bad_cert at) }
 {
     let text = format!(in alloc; "bad certificate 6 Range at {at}\n")?;
@@ -87,6 +90,20 @@ pub fn bad_cert(alloc: Global, at: usize) -> Result<Outcome, NoMemory>
         status: Status::BadCert,
         text: Text::from_string(text),
     })
+}
+
+/// The outcome of a cause.
+pub fn outcome_of(alloc: Global, stop: Stop<'_>) -> Result<Outcome, NoMemory>
+    ensures { IfOk result (λ o. outcome_of stop.entry ≡ Some o) }
+{
+    match stop {
+        Stop::ReadFault(name) => read_fault(alloc, name),
+        Stop::TooLarge(name) => too_large(alloc, name),
+        Stop::BadImage(fault) => bad_image(alloc, fault),
+        Stop::BadConfig => bad_config(alloc),
+        Stop::BadCert(at) => bad_cert(alloc, at),
+        Stop::NoMemory => Err(NoMemory),
+    }
 }
 
 /// The conditions hold, for so many contexts and nodes.

@@ -3,7 +3,7 @@
 ghost use Rattle.std.specs.Prelude.{◌≡◌, ◌≢◌, []};
 ghost use Rattle.kc_io.specs.Files.{HasFailed};
 ghost use Rattle.kc_top.specs.Words.{request_of};
-ghost use Rattle.kc_top.specs.Output.{IsDue, Reports, HoldsFiles, HasRoom};
+ghost use Rattle.kc_top.specs.Output.{IsDue, Tells, HoldsFiles, HasRoom};
 
 use crate::{Outcome, Status, Words, run};
 use kc_io::{Files, MemFiles, MemSink, Sink};
@@ -20,7 +20,7 @@ pub fn run_in_memory(
     ensures outcome { result ≢ Status.NoMemory → ((o : Outcome)
         × IsDue (⟦<MemFiles as Files>⟧.state files.old).held
         (HasFailed (⟦<MemFiles as Files>⟧.state files.old) (⟦<MemFiles as Files>⟧.state files.new)) words.now o
-        × Reports o result (⟦<MemSink as Sink>⟧.state out.old) (⟦<MemSink as Sink>⟧.state out.new)) }
+        × Tells o result (⟦<MemSink as Sink>⟧.state out.old) (⟦<MemSink as Sink>⟧.state out.new)) }
     ensures read { (⟦<MemFiles as Files>⟧.state files.old).failing ≡ [] →
         HoldsFiles (⟦<MemFiles as Files>⟧.state files.old).held (request_of words.now) → result ≢ Status.ReadFault }
     ensures written { (⟦<MemFiles as Files>⟧.state files.old).failing ≡ [] →

@@ -3,14 +3,20 @@
 ghost use Rattle.std.specs.Prelude.{◌≡◌, map, string_bytes, option_map};
 ghost use Rattle.std.specs.List.{list_any};
 ghost use Rattle.kc_top.specs.Words.{is_faulty, check_of, mode_of, request_of};
-ghost use Rattle.kc_top.specs.RequestSteps.{names_of};
+ghost use Rattle.kc_top.specs.RequestSteps.{asked};
 
-/// The files of `check IMAGE CONFIG CERT`, by name.
+/// The files that a mode begins with, by name.
 #[derive(Clone, Copy)]
-pub struct CheckFiles<'a> {
+pub struct Inputs<'a> {
     pub image: &'a str,
     pub config: &'a str,
-    pub cert: &'a str,
+}
+
+/// A mode with its operands.
+#[derive(Clone, Copy)]
+pub enum Request<'a> {
+    /// `check IMAGE CONFIG CERT`
+    Check { inputs: Inputs<'a>, cert: &'a str },
 }
 
 /// Whether a word is neither a mode nor an operand: it is empty or begins with `-`.
@@ -31,13 +37,15 @@ fn has_faulty(words: &[String]) -> bool
 }
 
 /// The operands of `check`.
-fn check_of(operands: &[String]) -> Option<CheckFiles<'_>>
-    ensures { option_map names_of result ≡ check_of (map (λ s. string_bytes s) operands.now) }
+fn check_of(operands: &[String]) -> Option<Request<'_>>
+    ensures { option_map asked result ≡ check_of (map (λ s. string_bytes s) operands.now) }
 {
     match operands {
-        [image, config, cert] => Some(CheckFiles {
-            image: image.as_str(),
-            config: config.as_str(),
+        [image, config, cert] => Some(Request::Check {
+            inputs: Inputs {
+                image: image.as_str(),
+                config: config.as_str(),
+            },
             cert: cert.as_str(),
         }),
         _ => None,
@@ -45,8 +53,8 @@ fn check_of(operands: &[String]) -> Option<CheckFiles<'_>>
 }
 
 /// By the first word, the mode.
-fn mode_of(words: &[String]) -> Option<CheckFiles<'_>>
-    ensures { option_map names_of result ≡ mode_of (map (λ s. string_bytes s) words.now) }
+fn mode_of(words: &[String]) -> Option<Request<'_>>
+    ensures { option_map asked result ≡ mode_of (map (λ s. string_bytes s) words.now) }
 {
     match words {
         [] => None,
@@ -61,8 +69,8 @@ fn mode_of(words: &[String]) -> Option<CheckFiles<'_>>
 }
 
 /// The request, where the words are one.
-pub fn request_of(words: &[String]) -> Option<CheckFiles<'_>>
-    ensures { option_map names_of result ≡ request_of (map (λ s. string_bytes s) words.now) }
+pub fn request_of(words: &[String]) -> Option<Request<'_>>
+    ensures { option_map asked result ≡ request_of (map (λ s. string_bytes s) words.now) }
 {
     if has_faulty(words) {
         return None;

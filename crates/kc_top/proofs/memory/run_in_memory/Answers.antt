@@ -6,7 +6,9 @@ use Rattle.kc_io.specs.Sink.{Plan}
 use Rattle.kc_io.specs.Memory.{file_of, shared_count}
 use Rattle.kc_top.specs.declared.status.Status.TheVariants.{WriteFault, NoMemory}
 use Rattle.kc_top.specs.Words.{request_of}
-use Rattle.kc_top.proofs.OutputLemmas.{IsRequestDue-read, IsRequestDue-quiet, shared_count-held, Rose-none}
+use Rattle.kc_top.specs.Output.{work_of}
+use Rattle.kc_top.proofs.WorkLemmas.{Comes-quiet}
+use Rattle.kc_top.proofs.OutputLemmas.{unfailed, shared_count-held, Rose-none}
 use Rattle.kc_top.proofs.OutputLemmas.{Refuses-room}
 use Rattle.kc_top.proofs.memory.run_in_memory.Goals as goal
 
@@ -35,8 +37,8 @@ returns-clause-read c = λ planned holds is.
     let remembered : c.run.result ≢ NoMemory = λ no. cc in
     let written : c.run.result ≢ WriteFault = λ no. cc in
     let told = c.run.ensures.outcome remembered in
-    let due = IsRequestDue-quiet held rose (request_of c.args.words.now) holds (still c planned) told.0 told.1 in
-    IsRequestDue-read (Some held) (request_of c.args.words.now) told.0 due (sym (told.2.all written).0 ∙ is)
+    let due = Comes-quiet held rose (still c planned) (work_of (request_of c.args.words.now)) holds told.0 told.1 in
+    unfailed (Some held) (request_of c.args.words.now) told.0 due (sym (told.2.all written).0 ∙ is)
 
 pub returns-clause-written : goal.returns-clause-written
 returns-clause-written c = λ planned holds sinks room is.
@@ -46,7 +48,7 @@ returns-clause-written c = λ planned holds sinks room is.
     c.run.new.files.other_faults) in
     let remembered : c.run.result ≢ NoMemory = λ no. cc in
     let told = c.run.ensures.outcome remembered in
-    let due = IsRequestDue-quiet held rose (request_of c.args.words.now) holds (still c planned) told.0 told.1 in
+    let due = Comes-quiet held rose (still c planned) (work_of (request_of c.args.words.now)) holds told.0 told.1 in
     let refuses = told.2.part is in
     let failing : c.run.new.out.failing.items ≡ [] = ap (λ (p : Plan). p.failing) c.run.ensures.out_kept.plan ∙ sinks in
     let same_room : c.run.new.out.room ≡ c.args.out.now.room = let plan = ap (λ (p : Plan). p.room)
