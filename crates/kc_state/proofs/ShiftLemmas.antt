@@ -26,7 +26,8 @@ half_shifted d key v k is fits =
     let same : (k +ℤ c) ≡ (k -ℤ least) = omega (arith, ints) in
     ap (shifted_from d key v c) is
     ∙ ap (λ (z : ℤ). cond (is_offset z) (based z (shifted_places key v.stacks c z)) (moved_bits d v c)) same
-    ∙ ap (λ (t : Bool). cond t (based (k -ℤ least) (shifted_places key v.stacks c (k -ℤ least))) (moved_bits d v c)) (offset_fits (k -ℤ least) fits)
+    ∙ ap (λ (t : Bool). cond t (based (k -ℤ least) (shifted_places key v.stacks c (k -ℤ least))) (moved_bits d v c))
+    (offset_fits (k -ℤ least) fits)
 
 pub minus_is : (c : ℤ) → FitsSigned w64 c → c ≢ least → to_z w64 (of_z w64 (pos 0 -ℤ to_z w64 (of_z w64 c))) ≡ neg_ℤ c
 minus_is c fits other =

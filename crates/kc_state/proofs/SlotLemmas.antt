@@ -21,14 +21,19 @@ whole_bytes Long = refl
 whole_bytes Quad = refl
 
 first_slot : (d : Description) (key : Key) (l : Location) (size i : ℕ) (v : AbsValue) (vs : List AbsValue) →
-    loaded_from d key l size i (v ∷ vs) ≡ loaded_or d size v (loaded_from d key l size (i + 1) vs) (offset_in l size (word_of d key i))
+    loaded_from d key l size i (v ∷ vs) ≡ loaded_or d size v (loaded_from d key l size (i + 1) vs)
+    (offset_in l size (word_of d key i))
 unfolding loaded_from
 first_slot d key l size i v vs =
-    let next : suc i ≡ i + 1 = omega arith in ap (λ (j : ℕ). loaded_or d size v (loaded_from d key l size j vs) (offset_in l size (word_of d key i))) next
+    let next : suc i ≡ i + 1 = omega arith in
+    ap (λ (j : ℕ). loaded_or d size v (loaded_from d key l size j vs) (offset_in l size (word_of d key i))) next
 
-pub loaded_step : (d : Description) (key : Key) (l : Location) (size i : ℕ) (slots : List AbsValue) (v : AbsValue) → i < length slots → v ≡ get_or slots i v →
-    loaded_from d key l size i (drop i slots) ≡ loaded_or d size v (loaded_from d key l size (i + 1) (drop (i + 1) slots)) (offset_in l size (word_of d key i))
-loaded_step d key l size i slots v h e = ap (loaded_from d key l size i) (drop_read slots i v h e) ∙ first_slot d key l size i v (drop (i + 1) slots)
+pub loaded_step : (d : Description) (key : Key) (l : Location) (size i : ℕ) (slots : List AbsValue) (v : AbsValue)
+    → i < length slots → v ≡ get_or slots i v →
+    loaded_from d key l size i (drop i slots) ≡ loaded_or d size v
+    (loaded_from d key l size (i + 1) (drop (i + 1) slots)) (offset_in l size (word_of d key i))
+loaded_step d key l size i slots v h e =
+    ap (loaded_from d key l size i) (drop_read slots i v h e) ∙ first_slot d key l size i v (drop (i + 1) slots)
 
 pub loaded_end : (d : Description) (key : Key) (l : Location) (size i : ℕ) (slots : List AbsValue) → length slots ≤ i →
     loaded_from d key l size i (drop i slots) ≡ derived (stack_of d.regions) (bits_cut (8 * size) nothing_known)

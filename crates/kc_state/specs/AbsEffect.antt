@@ -1,5 +1,6 @@
--- What is known after each instruction, an equation an instruction in the order of the processor's table: the state, one store, and
--- where the program goes on. This project's own. Where a condition on the instruction fails, nothing is said of what stands here.
+-- What is known after each instruction, an equation an instruction in the order of the processor's table: the state,
+-- one store, and where the program goes on. This project's own. Where a condition on the instruction fails, nothing is
+-- said of what stands here.
 use Rattle.std.specs.Prelude.{ℕ, ◌+◌, ◌-◌, ◌*◌, ◌/◌, ◌%◌, ◌^◌, Bool, true, false, cond, not, ◌&&◌, ◌||◌, ◌==◌, if◌then◌else◌, List, Option, Some, None, ℤ, pos, neg_ℤ, bit_and, bit_or, FitsSigned}
 use Rattle.std.specs.Int.{w64, bit_at, cast_signed}
 use Rattle.kc_bits.specs.KnownBits.{KnownBits}
@@ -62,7 +63,8 @@ pub record AbsChange : Type 0 where
 
 -- the gap after an STI ends
 abbrev pub goes : AbsMoment → Succ → AbsCpu → Option AbsStore → AbsChange
-goes m succ s store = record { cpu = record s { latches = record s.latches { shadow = No } }; store = store; succ = succ }
+goes m succ s store =
+    record { cpu = record s { latches = record s.latches { shadow = No } }; store = store; succ = succ }
 
 abbrev pub falls : AbsMoment → AbsCpu → Option AbsStore → AbsChange
 falls m s store = goes m Falls s store
@@ -78,7 +80,8 @@ with_result m w (place.Mem a) v s = s
 
 abbrev pub store_of : AbsMoment → Width → Place → AbsValue → Option AbsStore
 store_of m w (place.Reg r) v = None
-store_of m w (place.Mem a) v = Some (record { at = location_of m.key (linear m a); size = bits_of w / 8; value = v; gs = a.gs })
+store_of m w (place.Mem a) v =
+    Some (record { at = location_of m.key (linear m a); size = bits_of w / 8; value = v; gs = a.gs })
 
 -- an operation's flags, and its result, where it isn't dropped, into the destination
 abbrev pub operated : AbsMoment → Width → Place → KnownBits → Option AbsValue → AbsChange
@@ -145,7 +148,8 @@ moved_or m false op x known b = bits_value m.d b
 -- a sum or difference of 64 bits of the base and a constant moves the base; else only bits are known of a result
 abbrev pub alu_value : AbsMoment → AluOp → Width → AbsValue → AbsValue → AbsValue
 alu_value m op w x y =
-    moved_or m (is_quad w && is_based x.sym) op x (bits_single y.bits) (alu_bits op (bits_of w) (bits_cut (bits_of w) x.bits) (bits_cut (bits_of w) y.bits))
+    moved_or m (is_quad w && is_based x.sym) op x (bits_single y.bits)
+    (alu_bits op (bits_of w) (bits_cut (bits_of w) x.bits) (bits_cut (bits_of w) y.bits))
 
 abbrev pub alu_result : AbsMoment → AluOp → Width → AbsValue → AbsValue → Option AbsValue
 alu_result m alu.Cmp w x y = None
@@ -153,7 +157,8 @@ alu_result m op w x y = Some (alu_value m op w x y)
 
 abbrev pub alu_change : AbsMoment → AluOp → Width → Place → AbsValue → AbsValue → AbsChange
 alu_change m op w dest x y =
-    operated m w dest (alu_flags op (bits_of w) (bits_cut (bits_of w) x.bits) (bits_cut (bits_of w) y.bits) m.cpu.flags.bits) (alu_result m op w x y)
+    operated m w dest (alu_flags op (bits_of w) (bits_cut (bits_of w) x.bits) (bits_cut (bits_of w) y.bits)
+    m.cpu.flags.bits) (alu_result m op w x y)
 
 abbrev pub is_same_reg : Place → Source → Bool
 is_same_reg (place.Reg r) (source.Reg s) = r.0 == s.0
@@ -194,7 +199,9 @@ loaded_flags b = record {
 
 -- the gap is open where IF was clear
 abbrev pub with_gap : AbsMoment → AbsChange → AbsChange
-with_gap m c = record c { cpu = record c.cpu { latches = record c.cpu.latches { shadow = tri_not (known_flag m.cpu.flags.bits 9) } } }
+with_gap m c =
+    let latches = record c.cpu.latches { shadow = tri_not (known_flag m.cpu.flags.bits 9) } in
+    record c { cpu = record c.cpu { latches = latches } }
 
 -- ---- GS bases, model-specific registers and CR3
 
@@ -276,7 +283,8 @@ who_of_bits d b = who_by (is_number d.cpu.kernel_gs (bits_single b)) false
 abbrev pub with_msr : AbsMoment → Option ℕ → AbsCpu
 with_msr m n =
     if is_number gs_base n then record m.cpu { gs = record m.cpu.gs { active = who_of_bits m.d (edx_eax m.cpu) } } else
-    if is_number kernel_gs_base n then record m.cpu { gs = record m.cpu.gs { inactive = who_of_bits m.d (edx_eax m.cpu) } } else
+    if is_number kernel_gs_base n then
+    record m.cpu { gs = record m.cpu.gs { inactive = who_of_bits m.d (edx_eax m.cpu) } } else
     if is_number mcg_status n then record m.cpu { latches = record m.cpu.latches { mcip = No } } else m.cpu
 
 abbrev pub cr3_value : Description → MapState → AbsValue
@@ -286,7 +294,8 @@ cr3_value d map.Any = value_top
 
 -- the map that a value of CR3 names, without bit 63
 abbrev pub map_of : Description → Option ℕ → MapState
-map_of d (Some n) = if n % 2 ^ 63 == d.cpu.kernel_cr3 then map.Kernel else if n % 2 ^ 63 == d.cpu.user_cr3 then map.User else map.Any
+map_of d (Some n) =
+    if n % 2 ^ 63 == d.cpu.kernel_cr3 then map.Kernel else if n % 2 ^ 63 == d.cpu.user_cr3 then map.User else map.Any
 map_of d None = map.Any
 
 -- ---- the table
@@ -316,26 +325,30 @@ abs_row m (Alu op w dest src) =
     else alu_change m op w dest (destination m w dest) (operand m w src)
 abs_row m (Test w dest src) =
     operated m w dest
-    (alu_flags alu.And (bits_of w) (bits_cut (bits_of w) (destination m w dest).bits) (bits_cut (bits_of w) (operand m w src).bits) m.cpu.flags.bits) None
+    (alu_flags alu.And (bits_of w) (bits_cut (bits_of w) (destination m w dest).bits)
+    (bits_cut (bits_of w) (operand m w src).bits) m.cpu.flags.bits) None
 abs_row m (Bit op w dest number) =
     let x : KnownBits = bits_cut (bits_of w) (destination m w dest).bits in
     let i : ℕ = number % bits_of w in
     operated m w dest (bit_flags i x m.cpu.flags.bits) (bit_result m op i x)
 abs_row m (Jcc code target) = goes m (branch (holds code m.cpu.flags.bits) target) m.cpu None
 abs_row m (Jmp target) = goes m (Jumps target) m.cpu None
-abs_row m (Call target) = goes m (call_or_jump target (handler_of m.d.handlers target)) (with_pushed_rsp m) (push_of m (number_value m.d m.next))
+abs_row m (Call target) = goes m (call_or_jump target (handler_of m.d.handlers target)) (with_pushed_rsp m)
+    (push_of m (number_value m.d m.next))
 abs_row m Ret = goes m (jump_or_fall (bits_single (stack_word m).bits)) (with_popped_rsp m) None
 abs_row m Cli = falls m (with_flags m (clear_flag 0x200 m.cpu.flags.bits) m.cpu) None
 abs_row m Cld = falls m (with_flags m (clear_flag 0x400 m.cpu.flags.bits) m.cpu) None
 abs_row m Clac = falls m (with_flags m (clear_flag 0x40000 m.cpu.flags.bits) m.cpu) None
 abs_row m Stac = falls m (with_flags m (set_flag 0x40000 m.cpu.flags.bits) m.cpu) None
 abs_row m Sti = with_gap m (falls m (with_flags m (set_flag 0x200 m.cpu.flags.bits) m.cpu) None)
-abs_row m Swapgs = falls m (record m.cpu { gs = record { active = m.cpu.gs.inactive; inactive = m.cpu.gs.active } }) None
+abs_row m Swapgs =
+    falls m (record m.cpu { gs = record { active = m.cpu.gs.inactive; inactive = m.cpu.gs.active } }) None
 abs_row m (ReadGs r) = falls m (with_register r (gs_value m.d m.cpu.gs.active) m.cpu) None
 abs_row m (WriteGs r) = falls m (record m.cpu { gs = record m.cpu.gs { active = who_of m.d (register m.cpu r) } }) None
 abs_row m Rdmsr =
     let b : KnownBits = msr_bits m (msr_number m.cpu) in
-    falls m (with_register rax (bits_value m.d (bits_cut 32 b)) (with_register rdx (bits_value m.d (upper b)) m.cpu)) None
+    falls m (with_register rax (bits_value m.d (bits_cut 32 b)) (with_register rdx (bits_value m.d (upper b)) m.cpu))
+    None
 abs_row m Wrmsr = falls m (with_msr m (msr_number m.cpu)) None
 abs_row m (ReadCr3 r) = falls m (with_register r (cr3_value m.d m.cpu.map) m.cpu) None
 abs_row m (WriteCr3 r) = falls m (record m.cpu { map = map_of m.d (bits_single (register m.cpu r).bits) }) None
@@ -353,7 +366,13 @@ with_store d key slots (Some st) = with_store_at d key slots st st.at
 with_store d key slots None = slots
 
 abbrev pub moment_of : Description → Key → AbsState → ℕ → AbsMoment
-moment_of d key s next = record { d = d; key = key; cpu = record { regs = s.regs; flags = s.flags; gs = s.gs; map = s.map; latches = s.latches }; slots = s.slots; next = next }
+moment_of d key s next = record {
+  d = d;
+  key = key;
+  cpu = record { regs = s.regs; flags = s.flags; gs = s.gs; map = s.map; latches = s.latches };
+  slots = s.slots;
+  next = next;
+}
 
 -- the state with the change, and the store in it
 abbrev pub applied : Description → Key → AbsState → AbsChange → AbsState

@@ -1,4 +1,5 @@
--- The abstract step of an instruction, this project's own: the least condition that fails, or where the program goes on and what is known there.
+-- The abstract step of an instruction, this project's own: the least condition that fails, or where the program goes on
+-- and what is known there.
 use Rattle.std.specs.Prelude.{ℕ, Bool, false, not, Option, Some, None, Result, Ok, Err, slice_get}
 use Rattle.kc_insn.specs.declared.insn.Insn.{Insn}
 use Rattle.kc_regions.specs.Description.{Description}
@@ -38,7 +39,8 @@ conditions m s insn c = do
   ok ← refuse (not (is_allowed m insn)) (condition 11)
   refuse (not (restores m insn)) (condition 12)
 
-abbrev pub answer : Description → Key → AbsState → AbsChange → Result (Unit {0}) Condition → Result (Succ × AbsState) Condition
+abbrev pub answer : Description → Key → AbsState → AbsChange → Result (Unit {0}) Condition
+    → Result (Succ × AbsState) Condition
 answer d key s c (Ok u) = Ok (c.succ, with_call d key (applied d key s c) c.succ)
 answer d key s c (Err e) = Err e
 

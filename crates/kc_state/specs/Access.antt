@@ -38,10 +38,12 @@ abbrev pub is_stack_present : Description → Option ℕ → MapState → Bool
 is_stack_present d None map = false
 is_stack_present d (Some s) map = passes (is_present_under map) (stack_at d.regions s)
 
--- size bytes at this location: each may be accessed; or they lie in the 4,096 bytes below the base, and the stack is present
+-- size bytes at this location: each may be accessed; or they lie in the 4,096 bytes below the base, and the stack is
+-- present
 abbrev pub may : Description → Key → MapState → Location → ℕ → Touch → Bool
 may d key map (Number a) size touch = may_bytes d map touch a size
-may d key map (Relative k) size touch = (int_le (neg_ℤ (pos 4096)) k && int_le k (neg_ℤ (pos size))) && is_stack_present d key.stack map
+may d key map (Relative k) size touch =
+    (int_le (neg_ℤ (pos 4096)) k && int_le k (neg_ℤ (pos size))) && is_stack_present d key.stack map
 
 -- ---- live bytes
 
@@ -58,7 +60,8 @@ clear_stack key floors end (Some s) = is_floor_from end (floor_number key.base (
 -- the floor of each stack that n bytes from a meet isn't below end
 unfoldable pub clear_bytes : Description → Key → Floors → ℕ → ℕ → ℕ → Bool
 clear_bytes d key floors end a zero = true
-clear_bytes d key floors end a (suc n) = clear_stack key floors end (stack_of d.regions a) && clear_bytes d key floors end (word (a + 1)) n
+clear_bytes d key floors end a (suc n) =
+    clear_stack key floors end (stack_of d.regions a) && clear_bytes d key floors end (word (a + 1)) n
 
 -- the base, or no live byte
 abbrev pub is_base_or_none : Floor → Bool

@@ -64,14 +64,16 @@ is_edited_sym _ = false
 abbrev pub tame : AbsValue → AbsValue
 tame v = cond (is_edited_sym v.sym) (plain v) v
 
--- what slot i becomes, where the three words begin at l: joined with the edit of the word that it is, the top where it is hit, and
--- else without an edited symbol
+-- what slot i becomes, where the three words begin at l: joined with the edit of the word that it is, the top where it
+-- is hit, and else without an edited symbol
 abbrev pub edited_by : Option Location → Location → AbsValue → AbsValue
 edited_by w l old =
     if is_just l 8 w then value_joined old edited_rip else
     if is_just (moved_up l 16) 8 w then value_joined old edited_flags else
     if is_just (moved_up l 24) 8 w then value_joined old edited_rsp else
-    if meets_word l 8 w || (meets_word (moved_up l 16) 8 w || meets_word (moved_up l 24) 8 w) then value_top else tame old
+    if meets_word l 8 w || (meets_word (moved_up l 16) 8 w || meets_word (moved_up l 24) 8 w)
+    then value_top
+    else tame old
 
 abbrev pub edited : Description → Key → Location → ℕ → AbsValue → AbsValue
 edited d key l i old = edited_by (word_of d key i) l old
@@ -91,7 +93,8 @@ abbrev pub frame_of : Key → Handler → Option ℕ
 frame_of key h = cond key.kernel None h.frame
 
 abbrev pub called_at : Description → Key → Handler → AbsState → Option Location → AbsState
-called_at d key h s (Some l) = with_edits d key (frame_of key h) l (record s { slots = redone (used d key l h.stack) 0 s.slots })
+called_at d key h s (Some l) =
+    with_edits d key (frame_of key h) l (record s { slots = redone (used d key l h.stack) 0 s.slots })
 called_at d key h s None = s
 
 -- what the call of the handler changes in the state after the push
@@ -116,12 +119,14 @@ left_flags b after_if = record {
 -- RBX, RBP and R12 to R15 stay, RSP is as before the push, and of the other registers nothing is known
 abbrev pub left_registers : Description → Key → List AbsValue → List AbsValue
 left_registers d key regs =
-    value_top ∷ value_top ∷ value_top ∷ get_or regs 3 value_top ∷ shifted d key (get_or regs 4 value_top) (pos 8) ∷ get_or regs 5 value_top
+    value_top ∷ value_top ∷ value_top ∷ get_or regs 3 value_top ∷ shifted d key (get_or regs 4 value_top) (pos 8)
+    ∷ get_or regs 5 value_top
     ∷ value_top ∷ value_top ∷ value_top ∷ value_top ∷ value_top ∷ value_top
     ∷ get_or regs 12 value_top ∷ get_or regs 13 value_top ∷ get_or regs 14 value_top ∷ get_or regs 15 value_top ∷ []
 
 abbrev pub left : Description → Key → Handler → AbsState → AbsState
-left d key h s = record s { regs = left_registers d key s.regs; flags = bits_value d (left_flags s.flags.bits h.after_if) }
+left d key h s =
+    record s { regs = left_registers d key s.regs; flags = bits_value d (left_flags s.flags.bits h.after_if) }
 
 abbrev pub left_of : Description → Key → AbsState → Option Handler → Option AbsState
 left_of d key s (Some h) = cond h.returns (Some (left d key h s)) None

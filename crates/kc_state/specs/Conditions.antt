@@ -46,7 +46,8 @@ pub record AbsAccess : Type 0 where
   pub gs : Bool
 
 abbrev pub read_of : AbsMoment → Width → Source → List AbsAccess
-read_of m w (source.Mem a) = record { at = location_of m.key (linear m a); size = bits_of w / 8; touch = Read; gs = a.gs } ∷ []
+read_of m w (source.Mem a) =
+    record { at = location_of m.key (linear m a); size = bits_of w / 8; touch = Read; gs = a.gs } ∷ []
 read_of m w _ = []
 
 abbrev pub moved_location : Option Location → ℕ → Option Location
@@ -97,7 +98,8 @@ is_exact_at m inside v None = not inside && is_entry v 4
 
 abbrev pub is_exact : AbsMoment → Bool → Bool
 is_exact m inside =
-    (not (is_same_who m.cpu.gs.active who.Any) && (not (is_same_who m.cpu.gs.inactive who.Any) && not (is_same_map m.cpu.map map.Any)))
+    (not (is_same_who m.cpu.gs.active who.Any) && (not (is_same_who m.cpu.gs.inactive who.Any)
+    && not (is_same_map m.cpu.map map.Any)))
     && is_exact_at m inside (register m.cpu rsp) (location_of m.key (register m.cpu rsp))
 
 -- ---- C6: a GS access uses the kernel's base
@@ -112,7 +114,8 @@ may_at m (Some l) size touch = may m.d m.key m.cpu.map l size touch
 may_at m None size touch = false
 
 abbrev pub may_read_descriptor : AbsMoment → ℕ → Bool
-may_read_descriptor m selector = may m.d m.key m.cpu.map (Number (word (m.d.cpu.gdt + (selector - selector % 8)))) 8 Read
+may_read_descriptor m selector =
+    may m.d m.key m.cpu.map (Number (word (m.d.cpu.gdt + (selector - selector % 8)))) 8 Read
 
 abbrev pub may_read_cs32 : AbsMoment → Option ℕ → Bool
 may_read_cs32 m (Some cs) = may_read_descriptor m cs
@@ -122,7 +125,8 @@ may_read_cs32 m None = true
 abbrev pub may_read_descriptors : AbsMoment → Bool
 may_read_descriptors m =
     if m.key.kernel then may_read_descriptor m m.d.cpu.star_kernel && may_read_descriptor m (m.d.cpu.star_kernel + 8)
-    else may_read_cs32 m m.d.cpu.user_cs32 && (may_read_descriptor m (user_cs64 m.d.cpu) && may_read_descriptor m (user_ss m.d.cpu))
+    else may_read_cs32 m m.d.cpu.user_cs32 && (may_read_descriptor m (user_cs64 m.d.cpu)
+    && may_read_descriptor m (user_ss m.d.cpu))
 
 abbrev pub permits_more : AbsMoment → Insn → Bool
 permits_more m Ret = is_some (bits_single (stack_word m).bits)
@@ -172,7 +176,8 @@ has_room m h (Relative k) = is_some m.key.stack && (nat_le h.stack 4096 && not (
 
 abbrev pub calls_well_at : AbsMoment → Floors → Handler → Option Location → Bool
 calls_well_at m floors h (Some l) =
-    is_same_who m.cpu.gs.active who.Kernel && (is_same_map m.cpu.map map.Kernel && (clear m.d m.key floors l 0 && has_room m h l))
+    is_same_who m.cpu.gs.active who.Kernel &&
+    (is_same_map m.cpu.map map.Kernel && (clear m.d m.key floors l 0 && has_room m h l))
 calls_well_at m floors h None = false
 
 abbrev pub calls_handler : AbsMoment → Floors → Option Handler → Bool
@@ -187,7 +192,8 @@ calls_well m floors _ = true
 
 -- bits 47 to 63 are known alike
 abbrev pub is_canonical : KnownBits → Bool
-is_canonical b = (bit_and b.zeros (2 ^ 64 - 2 ^ 47) == 2 ^ 64 - 2 ^ 47) || (bit_and b.ones (2 ^ 64 - 2 ^ 47) == 2 ^ 64 - 2 ^ 47)
+is_canonical b =
+    (bit_and b.zeros (2 ^ 64 - 2 ^ 47) == 2 ^ 64 - 2 ^ 47) || (bit_and b.ones (2 ^ 64 - 2 ^ 47) == 2 ^ 64 - 2 ^ 47)
 
 abbrev pub is_user_gs : Sym → Bool
 is_user_gs UserGs = true
@@ -227,7 +233,8 @@ due_ss m = cond m.key.kernel None (Some (user_ss m.d.cpu))
 
 abbrev pub frame_restores : AbsMoment → Bool
 frame_restores m =
-    is_entry (frame_word m 0) 16 && ((is_entry (frame_word m 1) 18 || is_due (frame_word m 1) (due_cs m)) && (is_entry (frame_word m 2) 17
+    is_entry (frame_word m 0) 16 && ((is_entry (frame_word m 1) 18 || is_due (frame_word m 1) (due_cs m)) &&
+    (is_entry (frame_word m 2) 17
     && (is_entry (frame_word m 3) 4 && (is_entry (frame_word m 4) 19 || is_due (frame_word m 4) (due_ss m)))))
 
 abbrev pub are_entries : ℕ → List AbsValue → Bool
@@ -237,11 +244,13 @@ are_entries w (v ∷ vs) = ((w == 4) || is_entry v w) && are_entries (w + 1) vs
 -- GS pair and map are the key's, and for a return into the kernel each register but RSP is its own
 abbrev pub rest_restores : AbsMoment → Bool
 rest_restores m =
-    (is_same_who m.cpu.gs.active m.key.gs.active && (is_same_who m.cpu.gs.inactive m.key.gs.inactive && is_same_map m.cpu.map m.key.map))
+    (is_same_who m.cpu.gs.active m.key.gs.active && (is_same_who m.cpu.gs.inactive m.key.gs.inactive
+    && is_same_map m.cpu.map m.key.map))
     && (not m.key.kernel || are_entries 0 m.cpu.regs)
 
 abbrev pub restores : AbsMoment → Insn → Bool
 restores m Iretq = frame_restores m && rest_restores m
 restores m Sysretq =
-    (is_entry (register m.cpu rcx) 16 && (is_entry (register m.cpu (record { 0 = 11 })) 17 && is_entry (register m.cpu rsp) 4)) && rest_restores m
+    (is_entry (register m.cpu rcx) 16 && (is_entry (register m.cpu (record { 0 = 11 })) 17
+    && is_entry (register m.cpu rsp) 4)) && rest_restores m
 restores m _ = true

@@ -1,4 +1,5 @@
--- What is known of RFLAGS after arithmetic, this project's own: exact where both operands are known, and else by simple rules.
+-- What is known of RFLAGS after arithmetic, this project's own: exact where both operands are known, and else by simple
+-- rules.
 use Rattle.std.specs.Prelude.{◌≡◌, ℕ, ◌+◌, ◌-◌, ◌*◌, ◌/◌, ◌%◌, ◌^◌, Bool, true, false, cond, not, ◌&&◌, ◌||◌, ◌==◌, if◌then◌else◌, Option, Some, None, bit_and, bit_or, bit_xor}
 use Rattle.std.specs.Int.{bit_at}
 use Rattle.kc_bits.specs.KnownBits.{KnownBits}

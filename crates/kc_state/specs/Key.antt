@@ -6,7 +6,8 @@ use Rattle.kc_state.specs.declared.key.Key.{Key}
 -- kind, vector, origin, GS pair, map, stack, whether there is a base, and the base
 abbrev pub key_numbers : Key → List ℕ
 key_numbers k =
-    cond k.syscall 0 1 ∷ k.vector ∷ cond k.kernel 1 0 ∷ gs_number k.gs ∷ map_number k.map ∷ unwrap_or k.stack 255 ∷ cond (is_some k.base) 1 0
+    cond k.syscall 0 1 ∷ k.vector ∷ cond k.kernel 1 0 ∷ gs_number k.gs ∷ map_number k.map ∷ unwrap_or k.stack 255
+    ∷ cond (is_some k.base) 1 0
     ∷ unwrap_or k.base 0 ∷ []
 
 -- what each key of a table keeps, where there are so many stacks

@@ -11,9 +11,14 @@ pub mod User
 pub mod StateLaws
 pub mod SummaryLaws
 pub mod UserLaws
+pub mod Moment
 pub mod Operand
+pub mod Scaled
 pub mod Flags
 pub mod AbsEffect
 pub mod Calls
 pub mod Conditions
 pub mod AbsStep
+pub mod AbsEvents
+pub mod AbsDelivery
+pub mod AbsReturn

@@ -50,7 +50,8 @@ loaded_or d size v rest None = rest
 -- by the first of the slots, which are numbered from i, whose word holds the size bytes at l
 unfoldable pub loaded_from : Description → Key → Location → ℕ → ℕ → List AbsValue → AbsValue
 loaded_from d key l size i [] = derived (stack_of d.regions) (bits_cut (8 * size) nothing_known)
-loaded_from d key l size i (v ∷ vs) = loaded_or d size v (loaded_from d key l size (suc i) vs) (offset_in l size (word_of d key i))
+loaded_from d key l size i (v ∷ vs) =
+    loaded_or d size v (loaded_from d key l size (suc i) vs) (offset_in l size (word_of d key i))
 
 -- the least slot's whose word holds the size bytes at l; without one nothing is known but 0 above these bytes
 abbrev pub loaded : Description → Key → Location → ℕ → List AbsValue → AbsValue
@@ -90,17 +91,21 @@ abbrev pub meets_word : Location → ℕ → Option Location → Bool
 meets_word l size (Some w) = meets l size w
 meets_word l size None = false
 
--- What the bytes at l may change in slot i: they meet its word; or l is a number, they belong to the stack of a key without a base,
--- and the slot is one of the base's; or l is an offset, and the slot is one of those below the top of the key's stack.
+-- What the bytes at l may change in slot i: they meet its word; or l is a number, they belong to the stack of a key
+-- without a base, and the slot is one of the base's; or l is an offset, and the slot is one of those below the top of
+-- the key's stack.
 abbrev pub hits : Description → Key → Option ℕ → Location → ℕ → ℕ → Bool
 hits d key stack (Number a) size i =
-    meets_word (Number a) size (word_of d key i) || (has_no_base key.base && (is_same_stack stack key.stack && is_base_slot i))
+    meets_word (Number a) size (word_of d key i) ||
+    (has_no_base key.base && (is_same_stack stack key.stack && is_base_slot i))
 hits d key stack (Relative k) size i = meets_word (Relative k) size (word_of d key i) || is_marked_slot d key.stack i
 
 abbrev pub is_just : Location → ℕ → Option Location → Bool
 is_just l size (Some w) = (size == 8) && is_zero (distance l w)
 is_just l size None = false
 
--- what slot i becomes by a store of v into the size bytes at l: v, where they are just its word; the top, where it is hit
+-- what slot i becomes by a store of v into the size bytes at l: v, where they are just its word; the top, where it is
+-- hit
 abbrev pub stored : Description → Key → Location → ℕ → AbsValue → ℕ → AbsValue → AbsValue
-stored d key l size v i old = cond (is_just l size (word_of d key i)) v (cond (hits d key (location_stack d key (Some l)) l size i) value_top old)
+stored d key l size v i old =
+    cond (is_just l size (word_of d key i)) v (cond (hits d key (location_stack d key (Some l)) l size i) value_top old)

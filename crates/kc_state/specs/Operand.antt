@@ -78,7 +78,8 @@ scaled_bits b scale = record { zeros = word (b.zeros * scale) + (scale - 1); one
 -- with an index: the sum of the bits of base, index times scale and displacement, in this order
 abbrev pub indexed_bits : AbsMoment → Mem → Reg × ℕ → KnownBits
 indexed_bits m a i =
-    bits_add (bits_add (base_value m a.base).bits (scaled_bits (register m.cpu i.0).bits i.1)) (all_of (cast_unsigned w64 a.disp))
+    bits_add (bits_add (base_value m a.base).bits (scaled_bits (register m.cpu i.0).bits i.1))
+    (all_of (cast_unsigned w64 a.disp))
 
 abbrev pub effective_by : AbsMoment → Mem → Option (Reg × ℕ) → AbsValue
 effective_by m a None = shifted m.d m.key (base_value m a.base) a.disp

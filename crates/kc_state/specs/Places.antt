@@ -62,4 +62,5 @@ marked_word d m n = option_map (λ r. Number (below_address r.span.to (8 * n))) 
 abbrev pub word_of : Description → Key → ℕ → Option Location
 word_of d key i =
     cond (nat_lt i 8) (Some (Number (word (tss_word d.cpu.tss i))))
-    (cond (nat_lt i 40) (tracked_word d (i - 8)) (cond (nat_lt i 104) (base_word key.base key.syscall (i - 39)) (marked_word d ((i - 104) / 64) ((i - 104) % 64 + 1))))
+    (cond (nat_lt i 40) (tracked_word d (i - 8)) (cond (nat_lt i 104) (base_word key.base key.syscall (i - 39))
+    (marked_word d ((i - 104) / 64) ((i - 104) % 64 + 1))))

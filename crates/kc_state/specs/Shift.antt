@@ -24,10 +24,12 @@ abbrev pub has_no_base : Option ℕ → Bool
 has_no_base None = true
 has_no_base (Some base) = false
 
--- the places of base + k, which came from a value with these places by moving up by c: the stack of the key, where they were that
--- one alone, the key has no base, and the move goes up and not past the base; and any places else
+-- the places of base + k, which came from a value with these places by moving up by c: the stack of the key, where they
+-- were that one alone, the key has no base, and the move goes up and not past the base; and any places else
 abbrev pub shifted_places : Key → ℕ → ℤ → ℤ → ℕ
-shifted_places key places c k = cond (is_only_stack places key.stack && (has_no_base key.base && (int_le (pos 0) c && int_le k (pos 0)))) places all_places
+shifted_places key places c k =
+    cond (is_only_stack places key.stack && (has_no_base key.base && (int_le (pos 0) c && int_le k (pos 0)))) places
+    all_places
 
 -- base + k with no known bit
 abbrev pub based : ℤ → ℕ → AbsValue
@@ -38,7 +40,8 @@ abbrev pub moved_bits : Description → AbsValue → ℤ → AbsValue
 moved_bits d v c = derived (stack_of d.regions) (bits_add v.bits (all_of (cast_unsigned w64 c)))
 
 abbrev pub shifted_from : Description → Key → AbsValue → ℤ → Sym → AbsValue
-shifted_from d key v c (Base k) = cond (is_offset (k +ℤ c)) (based (k +ℤ c) (shifted_places key v.stacks c (k +ℤ c))) (moved_bits d v c)
+shifted_from d key v c (Base k) =
+    cond (is_offset (k +ℤ c)) (based (k +ℤ c) (shifted_places key v.stacks c (k +ℤ c))) (moved_bits d v c)
 shifted_from d key v c Plain = moved_bits d v c
 shifted_from d key v c (Entry w) = moved_bits d v c
 shifted_from d key v c UserGs = moved_bits d v c

@@ -23,7 +23,8 @@ state_below lesser greater =
     && (value_below lesser.flags greater.flags
     && (gs_below lesser.gs greater.gs
     && (map_below lesser.map greater.map
-    && (latches_below lesser.latches greater.latches && (floors_below lesser.floors greater.floors && rows_below value_below lesser.slots greater.slots)))))
+    && (latches_below lesser.latches greater.latches &&
+    (floors_below lesser.floors greater.floors && rows_below value_below lesser.slots greater.slots)))))
 
 abbrev pub state_joined : AbsState → AbsState → AbsState
 state_joined x y = record {
@@ -63,4 +64,5 @@ top_of_state s = record {
 abbrev pub state_rank : AbsState → ℕ
 state_rank s =
     sum_by value_rank s.regs
-    + (value_rank s.flags + (gs_rank s.gs + (map_rank s.map + (latches_rank s.latches + (floors_rank s.floors + sum_by value_rank s.slots)))))
+    + (value_rank s.flags + (gs_rank s.gs +
+    (map_rank s.map + (latches_rank s.latches + (floors_rank s.floors + sum_by value_rank s.slots)))))

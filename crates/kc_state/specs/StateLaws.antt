@@ -36,7 +36,10 @@ parts s = record {
     first = s.flags;
     second = record {
       first = s.gs;
-      second = record { first = s.map; second = record { first = s.latches; second = record { first = s.floors; second = s.slots } } };
+      second = record {
+        first = s.map;
+        second = record { first = s.latches; second = record { first = s.floors; second = s.slots } };
+      };
     };
   };
 }
@@ -54,12 +57,16 @@ of_parts b = record {
 
 pub state_laws : Laws IsState AllAlike state_below state_joined top_of_state state_rank
 state_laws = reshaped_laws
-    (both_laws (counted_laws value_laws 16) (both_laws value_laws (both_laws gs_laws (both_laws map_laws (both_laws latches_laws (both_laws floors_laws (slots_laws value_laws)))))))
+    (both_laws (counted_laws value_laws 16)
+    (both_laws value_laws (both_laws gs_laws
+    (both_laws map_laws (both_laws latches_laws (both_laws floors_laws (slots_laws value_laws)))))))
     parts of_parts (λ x. refl) (λ y. refl) IsState
     (λ x h. ((h.regs, h.reg_count), (h.flags, (tt, (tt, (tt, (h.floors, h.slots)))))))
     (λ y h. record { regs = h.0.0; reg_count = h.0.1; flags = h.1.0; floors = h.1.1.1.1.1.0; slots = h.1.1.1.1.1.1 })
-    (λ x y hx hy.
-    (all_alike_rows x.regs y.regs (hx.reg_count ∙ sym hy.reg_count), (tt, (tt, (tt, (tt, (tt, all_alike_rows x.slots y.slots (hx.slots.1 ∙ sym hy.slots.1))))))))
+    (λ x y hx hy. (
+      all_alike_rows x.regs y.regs (hx.reg_count ∙ sym hy.reg_count),
+      (tt, (tt, (tt, (tt, (tt, all_alike_rows x.slots y.slots (hx.slots.1 ∙ sym hy.slots.1)))))),
+    ))
 
 tops : {A B : Type 0} (top : B) (xs : List A) → map (λ x. top) xs ≡ replicate (length xs) top
 tops top [] = refl
@@ -93,13 +100,25 @@ symbol_rank-le UserGs = omega arith
 -- no two known bits are one, so both masks together are one word
 pub value_rank-le : (v : AbsValue) → IsValidValue v → value_rank v ≤ 2 ^ 64 + 2 ^ 17
 value_rank-le v h =
-    let sum : bit_or v.bits.zeros v.bits.ones ≡ v.bits.zeros + v.bits.ones = or_disjoint v.bits.zeros v.bits.ones h.bits_fit.apart in
-    let fits : bit_or v.bits.zeros v.bits.ones < 2 ^ 64 = or_lt 64 v.bits.zeros v.bits.ones h.bits_fit.zeros_fit h.bits_fit.ones_fit in
+    let sum : bit_or v.bits.zeros v.bits.ones ≡ v.bits.zeros + v.bits.ones =
+    or_disjoint v.bits.zeros v.bits.ones h.bits_fit.apart in
+    let fits : bit_or v.bits.zeros v.bits.ones < 2 ^ 64 = or_lt 64 v.bits.zeros v.bits.ones h.bits_fit.zeros_fit
+    h.bits_fit.ones_fit in
     omega (arith, sum, fits, symbol_rank-le v.sym)
 
 -- 313 values, the pair, the map, three latches and 16 floors
 pub state_rank-le : (s : AbsState) → IsState s → state_rank s ≤ 313 * (2 ^ 64 + 2 ^ 17) + 6 + 16 * (2 ^ 64 - 1)
 state_rank-le s h =
-    let regs = subst (λ (n : ℕ). sum_by value_rank s.regs ≤ n * (2 ^ 64 + 2 ^ 17)) h.reg_count (rows_rank-le value_laws (2 ^ 64 + 2 ^ 17) value_rank-le s.regs h.regs) in
+    let regs = subst (λ (n : ℕ). sum_by value_rank s.regs ≤ n * (2 ^ 64 + 2 ^ 17)) h.reg_count
+    (rows_rank-le value_laws (2 ^ 64 + 2 ^ 17) value_rank-le s.regs h.regs) in
     let slots = slots_rank-le value_laws (2 ^ 64 + 2 ^ 17) value_rank-le s.slots h.slots in
-    omega (arith, regs, slots, value_rank-le s.flags h.flags, gs_rank-le s.gs, map_rank-le s.map, latches_rank-le s.latches, floors_rank-le s.floors h.floors)
+    omega (
+      arith,
+      regs,
+      slots,
+      value_rank-le s.flags h.flags,
+      gs_rank-le s.gs,
+      map_rank-le s.map,
+      latches_rank-le s.latches,
+      floors_rank-le s.floors h.floors,
+    )

@@ -8,10 +8,12 @@ abbrev pub IsSummary : Summary → Type 0
 IsSummary s = IsClobber s.clobber
 
 abbrev pub summary_below : Summary → Summary → Bool
-summary_below lesser greater = clobber_below lesser.clobber greater.clobber && latches_below lesser.latches greater.latches
+summary_below lesser greater =
+    clobber_below lesser.clobber greater.clobber && latches_below lesser.latches greater.latches
 
 abbrev pub summary_joined : Summary → Summary → Summary
-summary_joined x y = record { clobber = clobber_joined x.clobber y.clobber; latches = latches_joined x.latches y.latches }
+summary_joined x y =
+    record { clobber = clobber_joined x.clobber y.clobber; latches = latches_joined x.latches y.latches }
 
 abbrev pub summary_top : Summary
 summary_top = record { clobber = clobber_top; latches = latches_top }

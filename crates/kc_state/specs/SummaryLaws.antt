@@ -18,7 +18,8 @@ abbrev of_parts : Both ClobberSets Latches → Summary
 of_parts b = record { clobber = b.first; latches = b.second }
 
 pub summary_laws : Laws IsSummary AllAlike summary_below summary_joined (λ x. summary_top) summary_rank
-summary_laws = reshaped_laws (both_laws clobber_laws latches_laws) parts of_parts (λ x. refl) (λ y. refl) IsSummary (λ x h. (h, tt)) (λ y h. h.0) (λ x y hx hy. (tt, tt))
+summary_laws = reshaped_laws (both_laws clobber_laws latches_laws) parts of_parts (λ x. refl) (λ y. refl) IsSummary
+    (λ x h. (h, tt)) (λ y h. h.0) (λ x y hx hy. (tt, tt))
 
 pub summary_rank-le : (s : Summary) → summary_rank s ≤ 2 ^ 40 + 2 ^ 16 + 3
 summary_rank-le s = omega (arith, clobber_rank-le s.clobber, latches_rank-le s.latches)

@@ -12,7 +12,8 @@ IsUserState u = AreSlots IsValidValue u.slots
 
 abbrev pub user_below : UserState → UserState → Bool
 user_below lesser greater =
-    tri_below lesser.nmi_blocked greater.nmi_blocked && (tri_below lesser.mcip greater.mcip && rows_below value_below lesser.slots greater.slots)
+    tri_below lesser.nmi_blocked greater.nmi_blocked
+    && (tri_below lesser.mcip greater.mcip && rows_below value_below lesser.slots greater.slots)
 
 abbrev pub user_joined : UserState → UserState → UserState
 user_joined x y = record {

@@ -20,5 +20,6 @@ abbrev of_parts : Both Tri (Both Tri (List AbsValue)) → UserState
 of_parts b = record { nmi_blocked = b.first; mcip = b.second.first; slots = b.second.second }
 
 pub user_laws : Laws IsUserState AllAlike user_below user_joined top_of_user user_rank
-user_laws = reshaped_laws (both_laws tri_laws (both_laws tri_laws (slots_laws value_laws))) parts of_parts (λ x. refl) (λ y. refl) IsUserState
+user_laws = reshaped_laws (both_laws tri_laws (both_laws tri_laws (slots_laws value_laws))) parts of_parts (λ x. refl)
+    (λ y. refl) IsUserState
     (λ x h. (tt, (tt, h))) (λ y h. h.1.1) (λ x y hx hy. (tt, (tt, all_alike_rows x.slots y.slots (hx.1 ∙ sym hy.1))))

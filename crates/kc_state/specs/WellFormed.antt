@@ -10,8 +10,8 @@ use Rattle.kc_value.specs.declared.symbol.Sym.TheVariants.{Plain, Base, Entry, U
 use Rattle.kc_state.specs.declared.key.Key.{Key}
 use Rattle.kc_state.specs.declared.state.AbsState.{AbsState}
 
--- A value of the base knows no bit. One of the user's GS base doesn't know bit 0. The interrupted RSP with all bits known is a
--- number in the stack of the key, or in none where the key has none.
+-- A value of the base knows no bit. One of the user's GS base doesn't know bit 0. The interrupted RSP with all bits
+-- known is a number in the stack of the key, or in none where the key has none.
 abbrev pub IsSymbolWellFormed : Description → Key → AbsValue → Sym → Type 0
 IsSymbolWellFormed d key v Plain = Unit {0}
 IsSymbolWellFormed d key v (Base k) = v.bits ≡ nothing_known

@@ -70,8 +70,9 @@ fn may_bytes(cfg: &Config, map: MapState, touch: Touch, a: u64, size: u8) -> boo
     true
 }
 
-fn is_stack_present(cfg: &Config, stack: Option<u8>, map: MapState) -> bool
-    ensures { result ≡ is_stack_present cfg.now stack map }
+/// Whether there is a stack, and it is present under the map.
+pub fn is_stack_present(cfg: &Config, stack: Option<u8>, map: MapState) -> bool
+    ensures value { result ≡ is_stack_present cfg.now stack map }
 {
     match stack {
         Some(s) => match cfg.regions.stack(s) {

@@ -73,9 +73,10 @@ fn places(key: &Key, stacks: u32, up: bool, k: i64) -> u32
     }
 }
 
-fn is_only_stack(stacks: u32, stack: Option<u8>) -> bool
+/// Whether the set of places `stacks` has this one stack alone.
+pub fn is_only_stack(stacks: u32, stack: Option<u8>) -> bool
     requires { stacks < 2 ^ 17 }
-    ensures { result ≡ is_only_stack stacks stack }
+    ensures value { result ≡ is_only_stack stacks stack }
 {
     match stack {
         Some(s) if s < 17 => stacks == 1 << s,
@@ -91,8 +92,8 @@ fn moved(cfg: &Config, v: &Value, c: u64) -> Value
 }
 
 /// What `bits` alone say, a number at its own place.
-pub(crate) fn derived(cfg: &Config, bits: &Bits) -> Value
-    ensures { result ≡ derived (stack_of cfg.now.regions) bits.now }
+pub fn derived(cfg: &Config, bits: &Bits) -> Value
+    ensures value { result ≡ derived (stack_of cfg.now.regions) bits.now }
 {
     match bits.single() {
         Some(n) => Value::derived(bits, cfg.regions.stack_of(n)),

@@ -164,8 +164,9 @@ pub fn hits(cfg: &Config, key: &Key, stack: Option<u8>, l: Location, size: u32, 
     }
 }
 
-fn meets_word(l: Location, size: u32, w: Option<Location>) -> bool
-    ensures { result ≡ meets_word l size w }
+/// Whether the `size` bytes at `l` have one in common with this word.
+pub fn meets_word(l: Location, size: u32, w: Option<Location>) -> bool
+    ensures value { result ≡ meets_word l size w }
 {
     match w {
         Some(w) => meets(l, size, w),

@@ -8,5 +8,6 @@ use Rattle.kc_state.proofs.access.is_base_clear.Goals as goal
 pub returns-in_default : goal.returns-in_default
 returns-in_default c =
     let floors = c.args.floors.now in
-    let past = get_or_past floors.at c.in-Some.s floor_top (omega (arith, c.tell.ensures.count, c.if-s-lt16.false)) in
+    let past = get_or_past floors.at c.in-Some.s floor_top
+    (omega (arith, c.tell.ensures.valid.count, c.if-s-lt16.false)) in
     sym (ap (is_base_clear floors) c.in-Some.is ∙ ap is_base_or_none past)

@@ -5,5 +5,7 @@ use Rattle.kc_state.proofs.places.marked_stack.Goals as goal
 
 pub returns : goal.returns
 returns c =
-    let stacks = YieldsList-from_filter _ _ (YieldsList-from_slice c.args.regions.now cc) c.filter.ensures.closure (λ x r q k. search (rules, tests)) in
-    nth_from_yields_List _ _ _ c.nth.ensures.ran (YieldsList-from_filter _ _ stacks c.filter-2.ensures.closure (λ x r q k. search (rules, tests)))
+    let stacks = YieldsList-from_filter _ _ (YieldsList-from_slice c.args.regions.now cc) c.filter.ensures.closure
+    (λ x r q k. search (rules, tests)) in
+    nth_from_yields_List _ _ _ c.nth.ensures.ran (YieldsList-from_filter _ _ stacks c.filter-2.ensures.closure
+    (λ x r q k. search (rules, tests)))

@@ -7,5 +7,11 @@ use Rattle.kc_state.proofs.shifts.derived.Goals as goal
 pub derived-requires : goal.derived-requires
 derived-requires c =
     let parts = c.cfg.inside in
-    let d : Description = record { cpu = parts.cpu; regions = parts.regions; gates = parts.gates; handlers = parts.handlers; words = parts.words } in
-    subst IsPlace (sym c.stack_of.ensures) (is_place d c.in-Some.n c.cfg.invariant)
+    let d : Description = record {
+      cpu = parts.cpu;
+      regions = parts.regions;
+      gates = parts.gates;
+      handlers = parts.handlers;
+      words = parts.words;
+    } in
+    subst IsPlace (sym c.stack_of.ensures.value) (is_place d c.in-Some.n c.cfg.invariant)

@@ -10,4 +10,4 @@ returns-in_default c =
     let s = c.in-Some.s in
     let big : 2 ^ 17 ≤ 2 ^ s = pow_mono {i = 17} {j = s} (omega (arith, c.if-s-lt17.false)) in
     let other : c.args.stacks ≢ 2 ^ s = λ e. omega (arith, e, big, c.requires) in
-    sym (ap (is_only_stack c.args.stacks) c.in-Some.is ∙ ne_eqb c.args.stacks (2 ^ s) other)
+    record { value = sym (ap (is_only_stack c.args.stacks) c.in-Some.is ∙ ne_eqb c.args.stacks (2 ^ s) other) }

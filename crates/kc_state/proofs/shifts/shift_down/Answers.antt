@@ -9,5 +9,6 @@ pub returns-else-c-eqminus9223372036854775808 : goal.returns-else-c-eqminus92233
 returns-else-c-eqminus9223372036854775808 c = record {
   value =
       c.shift.ensures.value ∙ ap (λ z. shifted c.args.cfg.now c.args.key.now c.args.v.now z)
-      (minus_is c.args.c (record { sfits = c.ranges.c.sfits }) (λ e. c.if-c-eqminus9223372036854775808.false (ap (of_z w64) e)));
+      (minus_is c.args.c (record { sfits = c.ranges.c.sfits }) (λ e. c.if-c-eqminus9223372036854775808.false
+      (ap (of_z w64) e)));
 }

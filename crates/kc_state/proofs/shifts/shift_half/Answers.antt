@@ -22,5 +22,6 @@ returns-in-Some c =
     let read : z ≡ (k -ℤ least) = ap (λ (y : ℤ). to_z w64 (of_z w64 y)) sum ∙ to_z-of_z w64 (k -ℤ least) fits in
     let places : c.places.result ≡ shifted_places key v.stacks half z = c.places.ensures.value half refl in
     let made : c.based.result ≡ based z (shifted_places key v.stacks half z) = c.based.ensures ∙ ap (based z) places in
-    made ∙ ap (λ (y : ℤ). based y (shifted_places key v.stacks half y)) read ∙ sym (half_shifted d key v k c.in-Base.is fits)
+    made ∙ ap (λ (y : ℤ). based y (shifted_places key v.stacks half y)) read
+    ∙ sym (half_shifted d key v k c.in-Base.is fits)
     ∙ ap (λ (w : AbsValue). shifted d key w half) c.v.view_is

@@ -23,7 +23,8 @@ returns-in-Some c =
     let held : offset_in c.args.l size (word_of d key i) ≡ Some c.in-Some.off = search rules in
     let step = loaded_step d key c.args.l size i slots v below (search rules) in
     let read : c.get.result.now ≡ v = c.get.ensures.value value_top in
-    let here : c.part_of.result ≡ part_of d size v c.in-Some.off = c.part_of.ensures ∙ ap (λ (x : _). part_of d size x c.in-Some.off) read in
+    let here : c.part_of.result ≡ part_of d size v c.in-Some.off = c.part_of.ensures
+    ∙ ap (λ (x : _). part_of d size x c.in-Some.off) read in
     record { value = here ∙ sym (ap (loaded_or d size v _) held) ∙ sym step ∙ c.loop-i.invariant }
 
 pub loop-i-preserved : goal.loop-i-preserved
@@ -46,5 +47,9 @@ returns c =
     let past : length slots ≤ c.loop-i.i = omega (arith, c.whole.ensures.count, c.loop-i-test.false) in
     let none = loaded_end c.args.cfg.now c.args.key.now c.args.l (bits_of c.args.width / 8) c.loop-i.i slots past in
     let whole = whole_bytes c.args.width in
-    let cut : c.cut.result ≡ bits_cut (8 * (bits_of c.args.width / 8)) nothing_known = search rules ∙ ap (λ (n : ℕ). bits_cut n nothing_known) (sym whole) in
-    record { value = c.derived.ensures ∙ ap (derived (stack_of c.args.cfg.now.regions)) cut ∙ sym none ∙ c.loop-i.invariant }
+    let cut : c.cut.result ≡ bits_cut (8 * (bits_of c.args.width / 8)) nothing_known =
+    search rules ∙ ap (λ (n : ℕ). bits_cut n nothing_known) (sym whole) in
+    record {
+      value = c.derived.ensures.value ∙ ap (derived (stack_of c.args.cfg.now.regions)) cut ∙ sym none
+          ∙ c.loop-i.invariant;
+    }

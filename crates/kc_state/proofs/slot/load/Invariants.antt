@@ -5,4 +5,5 @@ use Rattle.kc_state.proofs.slot.load.Given as goal
 
 -- what is left decides
 abbrev pub invariant-loop-i : goal.invariant-loop-i
-invariant-loop-i l = loaded_from l.cfg l.key l.l (bits_of l.width / 8) l.i (drop l.i l.slots) ≡ loaded l.cfg l.key l.l (bits_of l.width / 8) l.slots
+invariant-loop-i l = loaded_from l.cfg l.key l.l (bits_of l.width / 8) l.i (drop l.i l.slots) ≡ loaded l.cfg l.key l.l
+    (bits_of l.width / 8) l.slots

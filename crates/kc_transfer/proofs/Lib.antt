@@ -1,0 +1,4 @@
+pub mod MaskLemmas
+pub mod ValueForms
+pub mod MomentForms
+pub mod StepForms

@@ -1,0 +1,80 @@
+//! What is known at the body of a handler after its call. This project's own.
+
+ghost use Rattle.std.specs.Prelude.{◌≡◌};
+ghost use Rattle.kc_regions.specs.declared.entry.Handler.{Handler as TheHandler};
+ghost use Rattle.kc_state.specs.Calls.{moved_down, used, called_at, called};
+ghost use Rattle.kc_state.specs.Places.{location_stack};
+ghost use Rattle.kc_state.specs.AbsStep.{with_call, entered};
+
+use crate::edits::edit;
+use crate::handler_call::{frame_of, handler_at};
+use kc_frames::Change;
+use kc_regions::{Config, Handler};
+use kc_state::{AbsState, Key, Location, Succ, hits, loc, stack_at};
+use kc_value::Value;
+
+// `n` bytes below a location: addresses wrap, and offsets do as signed words.
+fn moved_down(l: Location, n: u32) -> Location
+    ensures { result ≡ moved_down l n }
+{
+    match l {
+        Location::Number(a) => Location::Number(a.wrapping_sub(u64::from(n))),
+        Location::Relative(k) => Location::Relative(k.wrapping_sub(i64::from(n))),
+    }
+}
+
+// What a handler that uses `depth` bytes below `l`, which is RSP, may change.
+#[derive(Drop)]
+struct Used<'a> {
+    cfg: &'a Config,
+    key: &'a Key,
+    l: Location,
+    depth: u32,
+}
+
+impl<'a> Change<Value> for Used<'a> {
+    ghost changed = { λ u. used u.cfg.now u.key.now u.l u.depth };
+
+    fn at(&self, i: u16, old: &Value) -> Value {
+        let stack = stack_at(self.cfg, self.key, self.l);
+        let from = moved_down(self.l, self.depth);
+        if hits(self.cfg, self.key, stack, from, self.depth, i) {
+            Value::top()
+        } else {
+            *old
+        }
+    }
+}
+
+fn enter_at(cfg: &Config, key: &Key, h: &Handler, s: &mut AbsState, at: Option<Location>)
+    ensures { s.new ≡ called_at cfg.now key.now h.now s.old at }
+{
+    if let Some(l) = at {
+        s.slots.redo(&Used {
+            cfg,
+            key,
+            l,
+            depth: h.stack,
+        });
+        edit(cfg, key, frame_of(key, h), l, s);
+    }
+}
+
+// What the call of the handler changes after the push.
+fn enter(cfg: &Config, key: &Key, h: &Handler, s: &mut AbsState)
+    ensures { s.new ≡ called cfg.now key.now h.now s.old }
+{
+    let at = loc(key, &s.regs[4]);
+    enter_at(cfg, key, h, s, at);
+}
+
+// At a call of a handler, the state at its body.
+pub(crate) fn enter_called(cfg: &Config, key: &Key, succ: Succ, s: &mut AbsState)
+    ensures { s.new ≡ with_call cfg.now key.now s.old succ }
+{
+    if let Succ::Calls(h) = succ {
+        if let Some(handler) = handler_at(cfg, h) {
+            enter(cfg, key, &handler, s);
+        }
+    }
+}
