@@ -1,0 +1,5 @@
+pub mod SetLemmas
+pub mod GateLemmas
+pub mod RegionLemmas
+pub mod ByteLemmas
+pub mod FaultLemmas
