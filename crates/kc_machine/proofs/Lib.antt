@@ -1,0 +1,9 @@
+pub mod ListLemmas
+pub mod ChainLemmas
+pub mod JudgeLemmas
+pub mod BesidesLemmas
+pub mod GoLemmas
+pub mod EnterLemmas
+pub mod StartLemmas
+pub mod BodyLemmas
+pub mod StepLemmas

@@ -1,0 +1,6 @@
+pub mod Ends
+pub mod JudgeSteps
+pub mod Chain
+pub mod Start
+pub mod Step
+pub mod Machine

@@ -1,0 +1,17 @@
+//! The machine: a description, an image and a state, the start of a run and one step of it.
+#![tactic(auto)]
+
+mod cause;
+mod chain;
+mod code;
+mod end;
+mod event;
+mod handler;
+mod judge;
+mod machine;
+mod start;
+mod user;
+
+pub use end::{StartEnd, StepEnd};
+pub use machine::Machine;
+pub use start::may_start;
