@@ -1,0 +1,10 @@
+use Rattle.std.proofs.Common.{sym, ◌∙◌}
+use Rattle.kc_trace.specs.Assignments.{is_equals}
+use Rattle.kc_trace.proofs.CutLemmas.{after_found, after_none}
+use Rattle.kc_trace.proofs.assignment.number_text.Goals as goal
+
+pub returns-in-Some : goal.returns-in-Some
+returns-in-Some c = after_found is_equals c.args.word.now c.in-Some.end (sym c.find.ensures ∙ c.in-Some.is)
+
+pub returns-in-None : goal.returns-in-None
+returns-in-None c = sym (after_none is_equals c.args.word.now (sym c.find.ensures ∙ c.in-None.is))
