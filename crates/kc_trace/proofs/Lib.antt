@@ -1,3 +1,4 @@
 mod CutLemmas
 mod DigitLemmas
 mod EachLemmas
+mod FewLemmas

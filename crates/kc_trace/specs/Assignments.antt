@@ -1,5 +1,5 @@
 -- Assignments `<name>=<number>`: this project's own.
-use Rattle.std.specs.Prelude.{codes, ℕ, ◌==◌, Bool, true, false, not, ◌&&◌, ◌||◌, nat_le, nat_lt, List, [], ◌∷◌, ◌++◌, Option, Some, None, is_some, ok_or, Result, Ok, Err, if◌then◌else◌}
+use Rattle.std.specs.Prelude.{codes, ℕ, ◌==◌, Bool, true, false, not, ◌&&◌, ◌||◌, nat_le, nat_lt, List, [], ◌∷◌, ◌++◌, Option, Some, None, is_some, ok_or, Result, Ok, if◌then◌else◌}
 use Rattle.std.specs.List.{list_any, before_first, after_first, position}
 use Rattle.std.specs.Option.{option_and_then}
 use Rattle.std.specs.Str.{bytes_eq}

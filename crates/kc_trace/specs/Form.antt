@@ -3,7 +3,6 @@
 use Rattle.std.specs.Prelude.{codes, ℕ, ◌-◌, Bool, true, false, not, ◌&&◌, nat_le, nat_lt, List, [], ◌∷◌, Option, Some, None, ok_or, Result, Ok, Err, if◌then◌else◌}
 use Rattle.std.specs.Str.{bytes_eq}
 use Rattle.kc_rules.specs.Rules.{◌>>=◌}
-use Rattle.kc_trace.specs.declared.assignment.Setter.{Setter}
 use Rattle.kc_trace.specs.declared.assignment.Setter.TheVariants.{ByUser, ByBody, ByLeave}
 use Rattle.kc_trace.specs.declared.fault.LineFault.{LineFault}
 use Rattle.kc_trace.specs.declared.fault.LineFault.TheVariants.{Form, Number}

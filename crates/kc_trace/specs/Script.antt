@@ -1,15 +1,14 @@
 -- A whole trace and its first fault by line: this project's own.
-use Rattle.std.specs.Prelude.{◌≡◌, ℕ, ◌+◌, Bool, true, false, not, ◌⊎◌, List, [], ◌∷◌, ◌++◌, Result, Ok, Err, if◌then◌else◌}
+use Rattle.std.specs.Prelude.{ℕ, ◌+◌, false, not, List, [], ◌∷◌, ◌++◌, Result, Ok, Err, if◌then◌else◌}
 use Rattle.kc_rules.specs.Rules.{refuse, over, ◌>>=◌}
 use Rattle.kc_trace.specs.declared.fault.LineFault.{LineFault}
 use Rattle.kc_trace.specs.declared.fault.LineFault.TheVariants.{Form, Number, NoMemory as NoMemoryForLine}
 use Rattle.kc_trace.specs.declared.fault.TraceFault.{TraceFault}
 use Rattle.kc_trace.specs.declared.fault.TraceFault.TheVariants.{BadLine, BadNumber, NoMemory}
 use Rattle.kc_trace.specs.declared.line.Line.{Line}
-use Rattle.kc_trace.specs.declared.line.Place.{Place}
 use Rattle.kc_trace.specs.declared.gathered.Gathered.{Gathered}
 use Rattle.kc_trace.specs.Words.{lines_of, is_passed_over}
-use Rattle.kc_trace.specs.Form.{line_of, place_after}
+use Rattle.kc_trace.specs.Form.{line_of, place_after, turns_of}
 
 -- before the first line
 abbrev pub nothing : Gathered
@@ -52,3 +51,8 @@ scripted text = do
   g ← gathered text
   ok ← refuse (not g.place.begun) (BadLine (g.count + 1))
   Ok g
+
+-- how many turns the lines are
+abbrev pub count_of : List Line → ℕ
+count_of [] = 0
+count_of (line ∷ lines) = turns_of line + count_of lines

@@ -1,9 +1,10 @@
 //! The lines of a trace, gathered up to the first fault.
 
-ghost use Rattle.std.specs.Prelude.{◌≡◌, ◌+◌, ◌-◌, ◌<◌, ◌^◌, length, IfOk};
+ghost use Rattle.std.specs.Prelude.{◌≡◌, ◌≢◌, ℕ, Err, ◌+◌, ◌-◌, ◌<◌, ◌≤◌, ◌^◌, length, IfOk};
+ghost use Rattle.kc_trace.specs.declared.fault.TraceFault.TheVariants.{NotAdmitted};
 ghost use Rattle.kc_trace.specs.Words.{lines_of};
 ghost use Rattle.kc_trace.specs.Faults.{ReadsTrace};
-ghost use Rattle.kc_trace.specs.Script.{fault_at, add_line, gathered, scripted};
+ghost use Rattle.kc_trace.specs.Script.{fault_at, add_line, gathered, scripted, count_of};
 
 use crate::fault::{LineFault, TraceFault};
 use crate::form::read_line;
@@ -93,6 +94,8 @@ fn gather(alloc: Global, text: &[u8]) -> Result<Gathered, TraceFault>
 pub fn read_lines(alloc: Global, text: &[u8]) -> Result<Gathered, TraceFault>
     requires lines { length (lines_of text.now) < 2 ^ 32 - 1 }
     ensures read { ReadsTrace (λ g. g) result (scripted text.now) }
+    ensures few { IfOk result (λ g. count_of g.lines ≤ 1000000) }
+    ensures by_line { (n : ℕ) → result ≢ Err (NotAdmitted n) }
 {
     let found = gather(alloc, text)?;
     if found.place.begun {
