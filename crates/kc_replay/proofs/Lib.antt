@@ -1,0 +1,5 @@
+mod ProgressLemmas
+mod CountLemmas
+mod ScriptLemmas
+mod LikeLemmas
+mod OnceLemmas
