@@ -5,19 +5,19 @@ use Rattle.std.specs.Prelude.{Option, Some, None, IfSome, Result, Ok, Err, IsErr
 use Rattle.kc_io.specs.Files.{Held, FilesState, FilesKept, HasFailed, IsWhole, IsLonger}
 use Rattle.kc_io.specs.Sink.{SinkState}
 use Rattle.kc_top.specs.declared.status.Status.{Status}
-use Rattle.kc_top.specs.declared.form.FormKind.{FormKind}
-use Rattle.kc_top.specs.declared.form.FormFault.{FormFault}
+use Rattle.kc_image.specs.declared.fault.ImageFault.{ImageFault}
 use Rattle.kc_top.specs.declared.form.RawCode.{RawCode}
 use Rattle.kc_top.specs.declared.outcome.Outcome.{Outcome}
 use Rattle.kc_top.specs.declared.stop.Stop.{Stop}
-use Rattle.kc_top.specs.declared.stop.Stop.TheVariants.{ReadFault, TooLarge, BadImage, BadConfig, BadCert, NoMemory}
+use Rattle.kc_top.specs.declared.stop.Stop.TheVariants.{ReadFault, TooLarge, BadImage, BadConfig, NotBuilt, BadCert}
+use Rattle.kc_top.specs.declared.stop.Stop.TheVariants.{BadTrace, NoMemory}
 use Rattle.kc_top.specs.Words.{Inputs}
 use Rattle.kc_top.specs.FirstForm.{Code, first_image, first_config, first_letters}
 use Rattle.kc_top.specs.FormSteps.{code_of, IsImage}
 use Rattle.kc_top.specs.Letters.{judged}
 use Rattle.kc_top.specs.Work.{Work, Wants, Only, form, Comes, read_fault, too_large}
-use Rattle.kc_top.specs.Output.{IMAGE_LIMIT, CONFIG_LIMIT, CERT_LIMIT, bad_image, bad_config, bad_cert, verdict}
-use Rattle.kc_top.specs.Output.{lettered, configured, loaded}
+use Rattle.kc_top.specs.Output.{IMAGE_LIMIT, CONFIG_LIMIT, CERT_LIMIT, bad_image, not_built, bad_cert, verdict}
+use Rattle.kc_top.specs.Output.{lettered, first_configured, first_loaded}
 use Rattle.kc_top.specs.OutputSteps.{outcome_of, IsUnread, Ends}
 use Rattle.kc_top.proofs.OutputLemmas.{Rose-before}
 
@@ -39,8 +39,10 @@ unread first before after name limit next (TooLarge named) kept is =
     inr (inl (subst (λ told. IsLonger told name limit) kept.held is.0, ap too_large is.1))
 unread first before after name limit next NoMemory kept is = tt
 unread first before after name limit next (BadImage fault) kept is = absurd is
-unread first before after name limit next BadConfig kept is = absurd is
+unread first before after name limit next (BadConfig fault) kept is = absurd is
+unread first before after name limit next NotBuilt kept is = absurd is
 unread first before after name limit next (BadCert at) kept is = absurd is
+unread first before after name limit next (BadTrace fault) kept is = absurd is
 
 -- a file that was read, and what follows of its bytes
 pub after_read : (told : Option Held) (rose : List ℕ → Type 0) (name : List ℕ) (limit : ℕ) (next : List ℕ → Work)
@@ -65,12 +67,11 @@ pub unformed : {A E : Type 0} (told : Option Held) (rose : List ℕ → Type 0) 
     (next : A → Work) (e : E) → r ≡ Err e → Comes told rose (form bad r next) (bad e)
 unformed told rose bad r next e is = rw is refl
 
-image_is : (r : Result Code (FormKind × ℕ)) (raw : RawCode) → IsImage r (Ok raw) → r ≡ Ok (code_of raw)
+image_is : (r : Result Code ImageFault) (raw : RawCode) → IsImage r (Ok raw) → r ≡ Ok (code_of raw)
 image_is (Ok code) raw is = ap Ok (sym is)
 image_is (Err fault) raw is = absurd is
 
-fault_is : (r : Result Code (FormKind × ℕ)) (fault : FormFault) → IsImage r (Err fault) →
-    r ≡ Err (fault.kind, fault.at)
+fault_is : (r : Result Code ImageFault) (fault : ImageFault) → IsImage r (Err fault) → r ≡ Err fault
 fault_is (Ok code) fault is = absurd is
 fault_is (Err e) fault is = ap Err (sym is)
 
@@ -80,22 +81,20 @@ lettered_code cert code = lettered cert (λ letters. Only (verdict (judged code 
 
 -- the file is no image
 pub no_image : (told : Option Held) (rose : List ℕ → Type 0) (inputs : Inputs) (next : Code → Work) (file : List ℕ)
-    (fault : FormFault) → IsWhole told inputs.image file → length file ≤ IMAGE_LIMIT →
-    IsImage (first_image file) (Err fault) → Comes told rose (loaded inputs next) (bad_image (fault.kind, fault.at))
+    (fault : ImageFault) → IsWhole told inputs.image file → length file ≤ IMAGE_LIMIT →
+    IsImage (first_image file) (Err fault) → Comes told rose (first_loaded inputs next) (bad_image fault)
 no_image told rose inputs next file fault whole within is =
-    let code : Code → Work = λ code. configured inputs.config (next code) in
+    let code : Code → Work = λ code. first_configured inputs.config (next code) in
     after_read told rose inputs.image IMAGE_LIMIT (λ file. form bad_image (first_image file) code) file whole within
-    (bad_image (fault.kind, fault.at))
-    (unformed told rose bad_image (first_image file) code (fault.kind, fault.at)
-    (fault_is (first_image file) fault is))
+    (bad_image fault) (unformed told rose bad_image (first_image file) code fault (fault_is (first_image file) fault is))
 
 -- after an image the configuration is due
 pub after_image : (told : Option Held) (rose : List ℕ → Type 0) (inputs : Inputs) (next : Code → Work) (file : List ℕ)
     (raw : RawCode) → IsWhole told inputs.image file → length file ≤ IMAGE_LIMIT →
     IsImage (first_image file) (Ok raw) → (o : Outcome) →
-    Comes told rose (configured inputs.config (next (code_of raw))) o → Comes told rose (loaded inputs next) o
+    Comes told rose (first_configured inputs.config (next (code_of raw))) o → Comes told rose (first_loaded inputs next) o
 after_image told rose inputs next file raw whole within is o follows =
-    let code : Code → Work = λ code. configured inputs.config (next code) in
+    let code : Code → Work = λ code. first_configured inputs.config (next code) in
     after_read told rose inputs.image IMAGE_LIMIT (λ file. form bad_image (first_image file) code) file whole within o
     (after_form told rose bad_image (first_image file) code (code_of raw) o (image_is (first_image file) raw is)
     follows)
@@ -103,10 +102,10 @@ after_image told rose inputs next file raw whole within is o follows =
 -- after the empty configuration what follows is due
 pub after_config : (told : Option Held) (rose : List ℕ → Type 0) (config : List ℕ) (next : Work) (file : List ℕ) →
     IsWhole told config file → length file ≤ CONFIG_LIMIT → file ≡ [] → (o : Outcome) → Comes told rose next o →
-    Comes told rose (configured config next) o
+    Comes told rose (first_configured config next) o
 after_config told rose config next file whole within empty o follows =
-    after_read told rose config CONFIG_LIMIT (λ file. form bad_config (first_config file) (λ _. next)) file whole within
-    o (after_form told rose bad_config (first_config file) (λ _. next) tt o (ap first_config empty) follows)
+    after_read told rose config CONFIG_LIMIT (λ file. form not_built (first_config file) (λ _. next)) file whole within
+    o (after_form told rose not_built (first_config file) (λ _. next) tt o (ap first_config empty) follows)
 
 -- a byte of the certificate is no letter
 pub no_letters : (told : Option Held) (rose : List ℕ → Type 0) (cert : List ℕ) (next : List ℕ → Work)

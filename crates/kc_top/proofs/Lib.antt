@@ -2,6 +2,9 @@ pub mod LinesLemmas
 pub mod WordsLemmas
 pub mod PathLemmas
 pub mod SafeLemmas
+pub mod FaultLemmas
 pub mod WorkLemmas
 pub mod OutputLemmas
 pub mod CheckLemmas
+pub mod TraceLemmas
+pub mod LoadLemmas

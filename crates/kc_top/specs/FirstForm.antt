@@ -3,8 +3,9 @@
 use Rattle.std.specs.Prelude.{ℕ, ◌+◌, ◌-◌, ◌^◌, Bool, not, ◌||◌, List, [], ◌∷◌, length, take, drop, Option, Some, None}
 use Rattle.std.specs.Prelude.{Result, Ok, Err, codes, position, zip, nat_le, nat_lt, if◌then◌else◌, ◌==◌}
 use Rattle.kc_words.specs.LittleEndian.{little_endian}
-use Rattle.kc_top.specs.declared.form.FormKind.{FormKind}
-use Rattle.kc_top.specs.declared.form.FormKind.TheVariants.{BadMagic, HeaderOut, SegmentOut}
+use Rattle.kc_image.specs.declared.fault.ImageFault.{ImageFault}
+use Rattle.kc_image.specs.declared.fault.ImageKind.TheVariants.{BadMagic, HeaderOut, SegmentOut}
+use Rattle.kc_image.specs.Fault.{fault}
 
 -- code bytes and the address of the first
 pub record Code : Type 0 where
@@ -16,18 +17,18 @@ abbrev pub magic_fault : List ℕ → Option ℕ
 magic_fault file = position (λ p. not (p.0 == p.1)) (zip file (codes "ENTRYRAW"))
 
 -- the load address in 8 little-endian bytes after the magic, and then the code, which ends below 2^64
-abbrev pub framed : List ℕ → Result Code (FormKind × ℕ)
+abbrev pub framed : List ℕ → Result Code ImageFault
 framed file =
-    if nat_lt (length file) 17 then Err (HeaderOut, length file)
-    else (if nat_le (2 ^ 64) (little_endian (take 8 (drop 8 file)) + (length file - 16)) then Err (SegmentOut, 8)
+    if nat_lt (length file) 17 then Err (fault HeaderOut (length file))
+    else (if nat_le (2 ^ 64) (little_endian (take 8 (drop 8 file)) + (length file - 16)) then Err (fault SegmentOut 8)
     else Ok (record { load = little_endian (take 8 (drop 8 file)); bytes = drop 16 file }))
 
-abbrev pub after_magic : List ℕ → Option ℕ → Result Code (FormKind × ℕ)
-after_magic file (Some at) = Err (BadMagic, at)
+abbrev pub after_magic : List ℕ → Option ℕ → Result Code ImageFault
+after_magic file (Some at) = Err (fault BadMagic at)
 after_magic file None = framed file
 
 -- the image, or the first rule that fails with its offset
-abbrev pub first_image : List ℕ → Result Code (FormKind × ℕ)
+abbrev pub first_image : List ℕ → Result Code ImageFault
 first_image file = after_magic file (magic_fault file)
 
 -- the empty file alone

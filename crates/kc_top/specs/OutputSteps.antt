@@ -1,21 +1,34 @@
--- What comes of a mode: its own end, or why it stopped before.
-use Rattle.std.specs.Prelude.{◌≡◌, ℕ, List, Option, Some, None, IfSome, Result, Ok, Err, ⊤}
-use Rattle.kc_io.specs.Files.{Held, FilesState, HasFailed, IsLonger}
+-- What comes of a mode and of its parts: its own end, or why it stopped before.
+use Rattle.std.specs.Prelude.{◌≡◌, ◌≢◌, ℕ, ◌≤◌, List, length, Option, Some, None, IfSome, Result, Ok, Err, ⊤}
+use Rattle.kc_io.specs.Files.{Held, FilesState, HasFailed, IsWhole, IsLonger}
 use Rattle.kc_io.specs.Sink.{SinkState}
+use Rattle.kc_image.specs.Image.{Contents}
+use Rattle.kc_image.specs.ImageFile.{contents_of}
+use Rattle.kc_regions.specs.Description.{Description}
+use Rattle.kc_regions.specs.Valid.{IsValid}
+use Rattle.kc_config.specs.Reading.{description, IsFirstFault}
+use Rattle.kc_trace.specs.declared.fault.TraceFault.TheVariants.{NoMemory as NoTraceMemory}
+use Rattle.kc_trace.specs.declared.line.Line.{Line}
+use Rattle.kc_replay.specs.Script.{Reads}
 use Rattle.kc_top.specs.declared.status.Status.{Status}
 use Rattle.kc_top.specs.declared.outcome.Outcome.{Outcome}
 use Rattle.kc_top.specs.declared.stop.Stop.{Stop}
-use Rattle.kc_top.specs.declared.stop.Stop.TheVariants.{ReadFault, TooLarge, BadImage, BadConfig, BadCert, NoMemory}
-use Rattle.kc_top.specs.Work.{Work, Comes, read_fault, too_large}
-use Rattle.kc_top.specs.Output.{bad_image, bad_config, bad_cert, Tells}
+use Rattle.kc_top.specs.declared.stop.Stop.TheVariants.{ReadFault, TooLarge, BadImage, BadConfig, NotBuilt, BadCert}
+use Rattle.kc_top.specs.declared.stop.Stop.TheVariants.{BadTrace, NoMemory}
+use Rattle.kc_top.specs.Words.{Inputs}
+use Rattle.kc_top.specs.Work.{Work, Over, Comes, read_fault, too_large}
+use Rattle.kc_top.specs.Output.{IMAGE_LIMIT, CONFIG_LIMIT, TRACE_LIMIT, bad_image, bad_config, not_built, bad_cert}
+use Rattle.kc_top.specs.Output.{bad_trace, loaded, scripted_by, Tells}
 
 -- the outcome of a cause; want of memory has none
 abbrev pub outcome_of : Stop → Option Outcome
 outcome_of (ReadFault name) = Some (read_fault name.now)
 outcome_of (TooLarge name) = Some (too_large name.now)
-outcome_of (BadImage fault) = Some (bad_image (fault.kind, fault.at))
-outcome_of BadConfig = Some (bad_config tt)
+outcome_of (BadImage fault) = Some (bad_image fault)
+outcome_of (BadConfig fault) = Some (bad_config fault)
+outcome_of NotBuilt = Some (not_built tt)
 outcome_of (BadCert at) = Some (bad_cert at)
+outcome_of (BadTrace fault) = Some (bad_trace fault)
 outcome_of NoMemory = None
 
 -- why a file wasn't read between the two states
@@ -24,6 +37,56 @@ IsUnread before after name limit (ReadFault named) = HasFailed before after name
 IsUnread before after name limit (TooLarge named) = IsLonger before.held name limit × (named.now ≡ name)
 IsUnread before after name limit NoMemory = ⊤
 IsUnread before after name limit _ = ⊥
+
+-- why the bytes of a file are no image
+abbrev pub IsNoImage : List ℕ → Stop → Type 0
+IsNoImage file (BadImage fault) = contents_of file ≡ Err fault
+IsNoImage file NoMemory = ⊤
+IsNoImage file _ = ⊥
+
+-- why a text is no description
+abbrev pub IsNoDescription : Contents → List ℕ → Stop → Type 0
+IsNoDescription image text (BadConfig fault) = IsFirstFault image.symbols text fault
+IsNoDescription image text NoMemory = ⊤
+IsNoDescription image text _ = ⊥
+
+-- why a text is no trace
+abbrev pub IsNoTrace : Description → List ℕ → Stop → Type 0
+IsNoTrace cfg text (BadTrace fault) = (fault ≢ NoTraceMemory) × Reads cfg text (Err fault)
+IsNoTrace cfg text NoMemory = ⊤
+IsNoTrace cfg text _ = ⊥
+
+-- what the files of a mode say: the image and the description
+pub record AreLoaded (told : Option Held) (inputs : Inputs) (image : Contents) (cfg : Description) : Type 0 where
+  pub file : List ℕ
+  pub file_whole : IsWhole told inputs.image file
+  pub file_within : length file ≤ IMAGE_LIMIT
+  pub is_image : contents_of file ≡ Ok image
+  pub text : List ℕ
+  pub text_whole : IsWhole told inputs.config text
+  pub text_within : length text ≤ CONFIG_LIMIT
+  pub is_description : description image.symbols text ≡ Ok cfg
+  pub valid : IsValid cfg
+
+-- the lines that a trace's file says
+pub record IsScripted (told : Option Held) (cfg : Description) (trace : List ℕ) (lines : List Line) : Type 0 where
+  pub text : List ℕ
+  pub whole : IsWhole told trace text
+  pub within : length text ≤ TRACE_LIMIT
+  pub reads : Reads cfg text (Ok lines)
+
+-- no outcome comes of it: for what stops before it
+abbrev pub Never : Work
+Never = Over (λ o. ⊥)
+
+-- why image and description weren't loaded: the cause's outcome comes before anything follows of them
+abbrev pub IsUnloaded : Option Held → (List ℕ → Type 0) → Inputs → Stop → Type 0
+IsUnloaded told rose inputs stop = IfSome (outcome_of stop) (Comes told rose (loaded inputs (λ image cfg. Never)))
+
+-- the same of a trace
+abbrev pub IsUnscripted : Option Held → (List ℕ → Type 0) → Description → List ℕ → Stop → Type 0
+IsUnscripted told rose cfg trace stop =
+    IfSome (outcome_of stop) (Comes told rose (scripted_by cfg trace (λ lines. Never)))
 
 -- an outcome of the work was told; or the outcome of the cause comes of the work, and nothing was written
 abbrev pub Ends : Option Held → (List ℕ → Type 0) → Work → SinkState → SinkState → Result Status Stop → Type 0

@@ -10,6 +10,7 @@ pub record Inputs : Type 0 where
 -- a mode with its operands
 pub data Request : Type 0 where
   Check : Inputs → List ℕ → Request
+  Replay : Inputs → List ℕ → Request
 
 -- a word that is neither a mode nor an operand: it is empty or begins with `-`
 abbrev pub is_faulty : List ℕ → Bool
@@ -21,9 +22,17 @@ abbrev pub check_of : List (List ℕ) → Option Request
 check_of (image ∷ config ∷ cert ∷ []) = Some (Check (record { image = image; config = config }) cert)
 check_of operands = None
 
+-- `replay IMAGE CONFIG TRACE`
+abbrev pub replay_of : List (List ℕ) → Option Request
+replay_of (image ∷ config ∷ trace ∷ []) = Some (Replay (record { image = image; config = config }) trace)
+replay_of operands = None
+
 -- by the first word, the mode
 abbrev pub mode_of : List (List ℕ) → Option Request
-mode_of (mode ∷ operands) = if bytes_eq mode (codes "check") then check_of operands else None
+mode_of (mode ∷ operands) =
+    if bytes_eq mode (codes "check") then check_of operands
+    else if bytes_eq mode (codes "replay") then replay_of operands
+    else None
 mode_of [] = None
 
 -- what the words ask for, where they are in order

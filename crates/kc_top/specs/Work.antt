@@ -11,6 +11,8 @@ pub data Work : Type 1 where
   Over : (Outcome → Type 0) → Work
   -- a file by its name, the most bytes that it may have, and what follows from its bytes
   Wants : List ℕ → ℕ → (List ℕ → Work) → Work
+  -- rules: the outcomes where one is broken, that all hold, and what follows then
+  Ruled : (Outcome → Type 0) → Type 0 → Work → Work
 
 -- it is over, with this outcome
 abbrev pub Only : Outcome → Work
@@ -36,15 +38,17 @@ pub record IsRead (told : Option Held) (limit : ℕ) (name : List ℕ) (next : L
   pub follows : next file o
 
 -- The outcome comes of the work, where `rose` says that the count of a name's faults rose: a read failed, or a file is
--- larger than its limit, or what follows comes of its bytes.
+-- larger than its limit, or what follows comes of its bytes; a rule is broken, or all hold and what follows comes.
 abbrev pub Comes : Option Held → (List ℕ → Type 0) → Work → Outcome → Type 0
 Comes told rose (Over ends) o = ends o
 Comes told rose (Wants name limit next) o =
     (rose name × (o ≡ read_fault name))
     ⊎ ((IsLonger told name limit × (o ≡ too_large name))
     ⊎ IsRead told limit name (λ bytes. Comes told rose (next bytes)) o)
+Comes told rose (Ruled broken holds next) o = broken o ⊎ (holds × Comes told rose next o)
 
 -- each file that the work wants is held
 abbrev pub AreHeld : Held → Work → Type 0
 AreHeld held (Over ends) = ⊤
 AreHeld held (Wants name limit next) = IsSomeAnd (held name) (λ bytes. AreHeld held (next bytes))
+AreHeld held (Ruled broken holds next) = holds → AreHeld held next

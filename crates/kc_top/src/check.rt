@@ -39,7 +39,7 @@ pub fn check<'a, F: Files, S: Sink>(
     };
     let config = operand(alloc, files, inputs.config, CONFIG_LIMIT)?;
     if !is_config(&config) {
-        return Err(Stop::BadConfig);
+        return Err(Stop::NotBuilt);
     }
     let letters = operand(alloc, files, cert, CERT_LIMIT)?;
     if let Some(at) = letter_fault(&letters) {

@@ -6,16 +6,18 @@ ghost use Rattle.kc_io.specs.Sink.{SinkKept};
 ghost use Rattle.kc_top.specs.declared.outcome.Outcome.{Outcome as OutcomeValue};
 ghost use Rattle.kc_top.specs.Words.{request_of};
 ghost use Rattle.kc_top.specs.RequestSteps.{asked};
-ghost use Rattle.kc_top.specs.Output.{work_of, IsDue, Tells, AcceptsSafe, HoldsFiles};
+ghost use Rattle.kc_top.specs.Output.{work_of, IsDue, Tells, AcceptsSafe, HoldsFiles, IsDecided};
 ghost use Rattle.kc_top.specs.OutputSteps.{outcome_of, Ends};
 
 use crate::check::check;
 use crate::outcome::say;
+use crate::replay::replay;
 use crate::request::{Request, request_of};
 use crate::stop::Stop;
 use crate::{Status, Words, lines};
 use kc_io::{Files, Sink};
 use kc_plain::NoMemory;
+use kc_replay::one_text;
 use std::alloc::Global;
 
 /// Does the work of a mode, and tells its end.
@@ -32,6 +34,7 @@ fn perform<'a, F: Files, S: Sink>(
 {
     match request {
         Request::Check { inputs, cert } => check(alloc, inputs, cert, files, out),
+        Request::Replay { inputs, trace } => replay(alloc, inputs, trace, files, out),
     }
 }
 
@@ -50,11 +53,12 @@ fn report<S: Sink>(alloc: Global, stop: Stop<'_>, out: &mut S) -> Status
 
 /// Runs the command that the words name.
 ///
-/// `check IMAGE CONFIG CERT` reads the three files in this order, decides, and writes one line. The
-/// answer is the line's status, and then the sink refused nothing; `WriteFault` where the sink
-/// refused a part of the line; `NoMemory` where memory ran out, and then nothing was written.
+/// `check IMAGE CONFIG CERT` reads the three files in this order, decides, and writes one line.
+/// `replay IMAGE CONFIG TRACE` reads its three in order, runs the trace, and writes what is told of it.
+/// The answer is the outcome's status, and then the sink refused nothing; `WriteFault` where the sink
+/// refused a part of the text; `NoMemory` where memory ran out, and then nothing was written.
 pub fn run<F: Files, S: Sink>(alloc: Global, words: &Words, files: &mut F, out: &mut S) -> Status
-    // The status and the line are those of the outcome that is due.
+    // The status and the text are those of the outcome that is due.
     ensures outcome { result ≢ Status.NoMemory → ((o : OutcomeValue)
         × IsDue (F.state files.old).held (HasFailed (F.state files.old) (F.state files.new)) words.now o
         × Tells o result (S.state out.old) (S.state out.new)) }
@@ -79,10 +83,12 @@ pub fn run<F: Files, S: Sink>(alloc: Global, words: &Words, files: &mut F, out: 
 
 /// Over files that report what they hold, no two outcomes are due where no read fails, and one is due
 /// where they hold each file of the words. So the statuses exclude each other, and each comes exactly
-/// where its case of the definition holds.
+/// where its case of the definition holds. That one is due is not shown of a replay.
 pub fn one_outcome()
     ensures at_most_one { (held : Held) (words : List (List ℕ)) (o p : OutcomeValue) →
         IsDue (Some held) (λ _. ⊥) words o → IsDue (Some held) (λ _. ⊥) words p → o ≡ p }
-    ensures at_least_one { (held : Held) (words : List (List ℕ)) →
+    ensures at_least_one { (held : Held) (words : List (List ℕ)) → IsDecided (request_of words) →
         HoldsFiles (Some held) (request_of words) → (o : OutcomeValue) × IsDue (Some held) (λ _. ⊥) words o }
-{}
+{
+    one_text();
+}

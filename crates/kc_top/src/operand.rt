@@ -17,6 +17,9 @@ pub const CONFIG_LIMIT: u64 = 1_048_576;
 /// The most bytes of a certificate.
 pub const CERT_LIMIT: u64 = 201_326_592;
 
+/// The most bytes of a trace.
+pub const TRACE_LIMIT: u64 = 16_777_216;
+
 /// The bytes of the named file, at most `limit`.
 pub fn operand<'a, F: Files>(
     alloc: Global,

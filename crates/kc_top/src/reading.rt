@@ -4,7 +4,8 @@ ghost use Rattle.std.specs.Prelude.{◌≡◌, ◌↔◌, IsTrue, []};
 ghost use Rattle.kc_top.specs.FirstForm.{magic_fault, first_image};
 ghost use Rattle.kc_top.specs.FormSteps.{IsImage};
 
-use crate::form::{FormFault, FormKind, RawCode};
+use crate::form::RawCode;
+use kc_image::{ImageFault, ImageKind};
 use kc_words::le64;
 
 const MAGIC: [u8; 8] = *b"ENTRYRAW";
@@ -25,17 +26,18 @@ fn magic_fault(file: &[u8]) -> Option<usize>
 }
 
 /// Reads a raw image: `ENTRYRAW`, the load address in 8 little-endian bytes, the code.
-pub fn read_code(file: &[u8]) -> Result<RawCode<'_>, FormFault>
+pub fn read_code(file: &[u8]) -> Result<RawCode<'_>, ImageFault>
     ensures { IsImage (first_image file.now) result }
 {
     if let Some(at) = magic_fault(file) {
-        let kind = FormKind::BadMagic;
-        return Err(FormFault { kind, at });
+        let kind = ImageKind::BadMagic;
+        let at = at as u64;
+        return Err(ImageFault { kind, at });
     }
     if file.len() <= CODE {
-        let kind = FormKind::HeaderOut;
-        let at = file.len();
-        return Err(FormFault { kind, at });
+        let kind = ImageKind::HeaderOut;
+        let at = file.len() as u64;
+        return Err(ImageFault { kind, at });
     }
     let Some(field) = file[LOAD..].first_chunk::<8>() else {
         unreachable!()
@@ -43,8 +45,9 @@ pub fn read_code(file: &[u8]) -> Result<RawCode<'_>, FormFault>
     let load = le64(field);
     let bytes = &file[CODE..];
     if load.checked_add(bytes.len() as u64).is_none() {
-        let kind = FormKind::SegmentOut;
-        return Err(FormFault { kind, at: LOAD });
+        let kind = ImageKind::SegmentOut;
+        let at = LOAD as u64;
+        return Err(ImageFault { kind, at });
     }
     Ok(RawCode { load, bytes })
 }

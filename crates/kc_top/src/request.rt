@@ -2,7 +2,7 @@
 
 ghost use Rattle.std.specs.Prelude.{◌≡◌, map, string_bytes, option_map};
 ghost use Rattle.std.specs.List.{list_any};
-ghost use Rattle.kc_top.specs.Words.{is_faulty, check_of, mode_of, request_of};
+ghost use Rattle.kc_top.specs.Words.{is_faulty, check_of, replay_of, mode_of, request_of};
 ghost use Rattle.kc_top.specs.RequestSteps.{asked};
 
 /// The files that a mode begins with, by name.
@@ -17,6 +17,8 @@ pub struct Inputs<'a> {
 pub enum Request<'a> {
     /// `check IMAGE CONFIG CERT`
     Check { inputs: Inputs<'a>, cert: &'a str },
+    /// `replay IMAGE CONFIG TRACE`
+    Replay { inputs: Inputs<'a>, trace: &'a str },
 }
 
 /// Whether a word is neither a mode nor an operand: it is empty or begins with `-`.
@@ -52,6 +54,22 @@ fn check_of(operands: &[String]) -> Option<Request<'_>>
     }
 }
 
+/// The operands of `replay`.
+fn replay_of(operands: &[String]) -> Option<Request<'_>>
+    ensures { option_map asked result ≡ replay_of (map (λ s. string_bytes s) operands.now) }
+{
+    match operands {
+        [image, config, trace] => Some(Request::Replay {
+            inputs: Inputs {
+                image: image.as_str(),
+                config: config.as_str(),
+            },
+            trace: trace.as_str(),
+        }),
+        _ => None,
+    }
+}
+
 /// By the first word, the mode.
 fn mode_of(words: &[String]) -> Option<Request<'_>>
     ensures { option_map asked result ≡ mode_of (map (λ s. string_bytes s) words.now) }
@@ -61,6 +79,8 @@ fn mode_of(words: &[String]) -> Option<Request<'_>>
         [mode, operands @ ..] => {
             if mode.as_str() == "check" {
                 check_of(operands)
+            } else if mode.as_str() == "replay" {
+                replay_of(operands)
             } else {
                 None
             }

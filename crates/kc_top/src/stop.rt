@@ -2,22 +2,28 @@
 
 ghost use Rattle.std.specs.Prelude.{◌≡◌};
 
-use crate::form::FormFault;
+use kc_config::ConfigFault;
+use kc_image::ImageFault;
 use kc_plain::NoMemory;
+use kc_trace::TraceFault;
 
 /// The first cause in the order of work.
-#[derive(Clone, Copy, Debug)]
+#[derive(Debug, Drop)]
 pub enum Stop<'a> {
     /// A read of the named file failed.
     ReadFault(&'a str),
     /// The named file is larger than its limit.
     TooLarge(&'a str),
     /// The image isn't in its form.
-    BadImage(FormFault),
-    /// The configuration isn't in its form.
-    BadConfig,
+    BadImage(ImageFault),
+    /// The configuration isn't in its form, or breaks a rule.
+    BadConfig(ConfigFault),
+    /// The configuration isn't in its first form.
+    NotBuilt,
     /// The byte of the certificate at this offset isn't in its form.
     BadCert(usize),
+    /// The trace isn't in its form, or no machine may start so.
+    BadTrace(TraceFault),
     /// Memory ran out.
     NoMemory,
 }

@@ -7,7 +7,7 @@ use Rattle.kc_top.specs.FormSteps.{code_of, IsImage}
 use Rattle.kc_top.specs.Letters.{judged}
 use Rattle.kc_top.specs.RequestSteps.{inputs_of}
 use Rattle.kc_top.specs.Work.{Only, form, Comes}
-use Rattle.kc_top.specs.Output.{CONFIG_LIMIT, bad_config, bad_cert, verdict, configured, loaded}
+use Rattle.kc_top.specs.Output.{CONFIG_LIMIT, not_built, bad_cert, verdict, first_configured, first_loaded}
 use Rattle.kc_top.specs.FirstForm.{first_config}
 use Rattle.kc_top.specs.OutputSteps.{outcome_of}
 use Rattle.kc_top.proofs.OutputLemmas.{own-verdict, tells}
@@ -34,14 +34,14 @@ returns-in_err-config-clause-ends g c =
     let inputs = inputs_of c.args.inputs in
     let code = code_of c.in-Ok.code in
     let image : IsImage (first_image c.in_ok-image.image.items) (Ok c.in-Ok.code) = search rules in
-    ends_early first.held rose (loaded inputs next) (g.S.Sink.state c.args.out.now) c.in_err-config.field-0.0
+    ends_early first.held rose (first_loaded inputs next) (g.S.Sink.state c.args.out.now) c.in_err-config.field-0.0
     c.from_residual-in_err-config.result c.from_residual-in_err-config.ensures.1
-    (IfSome-map (Comes first.held rose (configured inputs.config (next code)))
-    (Comes first.held rose (loaded inputs next))
+    (IfSome-map (Comes first.held rose (first_configured inputs.config (next code)))
+    (Comes first.held rose (first_loaded inputs next))
     (after_image first.held rose inputs next c.in_ok-image.image.items c.in-Ok.code c.in_ok-image.ensures.whole
     c.in_ok-image.ensures.within image) (outcome_of c.in_err-config.field-0.0)
     (unread first (g.F.Files.state c.operand.new.files) last inputs.config CONFIG_LIMIT
-    (λ file. form bad_config (first_config file) (λ _. next code)) c.in_err-config.field-0.0
+    (λ file. form not_built (first_config file) (λ _. next code)) c.in_err-config.field-0.0
     c.operand.ensures.kept c.in_err-config.ensures.unread))
 
 -- both were read, and a byte of the certificate is no letter

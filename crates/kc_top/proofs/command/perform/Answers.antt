@@ -1,12 +1,7 @@
-use Rattle.std.proofs.Common.{◌≡◌, refl}
-use Rattle.kc_top.specs.declared.request.Request.{Request}
-use Rattle.kc_top.specs.declared.request.Request.TheVariants.{Check}
-use Rattle.kc_top.specs.declared.request.Inputs.{Inputs}
 use Rattle.kc_top.proofs.command.perform.Goals as goal
 
--- the one mode that there is
-named : (r : Request) → (inputs : Inputs) × (cert : _) × (r ≡ Check inputs cert)
-named (Check inputs cert) = (inputs, cert, refl)
+pub returns-in-Check-clause-ends : goal.returns-in-Check-clause-ends
+returns-in-Check-clause-ends g c = rw c.in-Check.is c.check.ensures.ends
 
-pub returns-clause-ends : goal.returns-clause-ends
-returns-clause-ends g c = let is = (named c.args.request).2 in rw is (rw is at c.check.ensures.ends)
+pub returns-in-Replay-clause-ends : goal.returns-in-Replay-clause-ends
+returns-in-Replay-clause-ends g c = rw c.in-Replay.is c.replay.ensures.ends

@@ -1,0 +1,194 @@
+-- What comes of work that begins with an image and a description, or with a trace, from what its steps found. Each
+-- lemma takes what comes of the rest of the work to what comes of the work that begins with the file; a cause that comes
+-- where nothing follows (`Never`) comes whatever follows (`-cut`).
+use Rattle.std.proofs.Common.{◌≡◌, ◌≢◌, ℕ, ◌≤◌, List, length, refl, ap, sym, inl, inr, subst}
+use Rattle.std.specs.Prelude.{Option, IfSome, IfErr, IsErrAnd, Result, Ok, Err}
+use Rattle.kc_io.specs.Files.{Held, FilesState, FilesKept, HasFailed, IsWhole}
+use Rattle.kc_image.specs.Image.{Contents}
+use Rattle.kc_image.specs.ImageFile.{contents_of}
+use Rattle.kc_regions.specs.Description.{Description}
+use Rattle.kc_regions.specs.Valid.{IsValid}
+use Rattle.kc_config.specs.declared.fault.ConfigFault.{ConfigFault}
+use Rattle.kc_config.specs.Reading.{description, IsFirstFault}
+use Rattle.kc_machine.specs.Start.{MayStart}
+use Rattle.kc_trace.specs.declared.fault.TraceFault.{TraceFault}
+use Rattle.kc_trace.specs.declared.fault.TraceFault.TheVariants.{BadLine, BadNumber, NotAdmitted, NoMemory as NoTraceMemory}
+use Rattle.kc_trace.specs.declared.gathered.Gathered.{Gathered}
+use Rattle.kc_trace.specs.declared.line.Line.{Line}
+use Rattle.kc_trace.specs.Script.{scripted}
+use Rattle.kc_replay.specs.Turns.{first_set}
+use Rattle.kc_replay.specs.Script.{Reads}
+use Rattle.kc_top.specs.declared.outcome.Outcome.{Outcome}
+use Rattle.kc_top.specs.declared.stop.Stop.{Stop}
+use Rattle.kc_top.specs.declared.stop.Stop.TheVariants.{ReadFault, TooLarge, BadImage, BadConfig, NotBuilt, BadCert}
+use Rattle.kc_top.specs.declared.stop.Stop.TheVariants.{BadTrace, NoMemory}
+use Rattle.kc_top.specs.Words.{Inputs}
+use Rattle.kc_top.specs.Work.{Work, Ruled, form, Comes}
+use Rattle.kc_top.specs.Output.{IMAGE_LIMIT, CONFIG_LIMIT, TRACE_LIMIT, bad_image, bad_config, bad_trace, IsBrokenRule}
+use Rattle.kc_top.specs.Output.{configured, loaded, IsNotStarted, scripted_by}
+use Rattle.kc_top.specs.OutputSteps.{outcome_of, IsNoImage, IsNoDescription, IsNoTrace, AreLoaded, IsScripted, Never}
+use Rattle.kc_top.proofs.WorkLemmas.{Comes-more, Wants-map, form-map, Ruled-map}
+use Rattle.kc_top.proofs.OutputLemmas.{Rose-before}
+use Rattle.kc_top.proofs.CheckLemmas.{after_read, after_form, unformed}
+
+-- what was handed on is what it was
+pub handed_on : {A E : Type 0} (P : E → Type 0) (stop : E) (r : Result A E) → IsErrAnd r (λ e. e ≡ stop) → P stop →
+    IfErr r P
+handed_on P stop (Ok a) is holds = absurd is
+handed_on P stop (Err e) is holds = subst P (sym is) holds
+
+-- what comes of a part, after what the files kept, comes in the whole
+pub Comes-later : (first second third : FilesState) (w : Work) (o : Outcome) → FilesKept first second →
+    Comes second.held (HasFailed second third) w o → Comes first.held (HasFailed first third) w o
+Comes-later first second third w o kept comes =
+    Comes-more first.held (HasFailed second third) (HasFailed first third)
+    (λ n rises. Rose-before (first.faults n) (second.faults n) (third.faults n) (kept.later n) rises) w o
+    (subst (λ (told : Option Held). Comes told (HasFailed second third) w o) kept.held comes)
+
+-- ---- the image
+
+-- after an image the description is due
+pub after_contents : (told : Option Held) (rose : List ℕ → Type 0) (inputs : Inputs)
+    (next : Contents → Description → Work) (file : List ℕ) (image : Contents) → IsWhole told inputs.image file →
+    length file ≤ IMAGE_LIMIT → contents_of file ≡ Ok image → (o : Outcome) →
+    Comes told rose (configured inputs.config image (next image)) o → Comes told rose (loaded inputs next) o
+after_contents told rose inputs next file image whole within is o follows =
+    let rest : Contents → Work = λ image. configured inputs.config image (next image) in
+    after_read told rose inputs.image IMAGE_LIMIT (λ file. form bad_image (contents_of file) rest) file whole within o
+    (after_form told rose bad_image (contents_of file) rest image o is follows)
+
+-- the file is no image
+pub no_contents : (told : Option Held) (rose : List ℕ → Type 0) (inputs : Inputs)
+    (next : Contents → Description → Work) (file : List ℕ) (stop : Stop) → IsWhole told inputs.image file →
+    length file ≤ IMAGE_LIMIT → IsNoImage file stop → IfSome (outcome_of stop) (Comes told rose (loaded inputs next))
+no_contents told rose inputs next file (BadImage fault) whole within is =
+    let rest : Contents → Work = λ image. configured inputs.config image (next image) in
+    after_read told rose inputs.image IMAGE_LIMIT (λ file. form bad_image (contents_of file) rest) file whole within
+    (bad_image fault) (unformed told rose bad_image (contents_of file) rest fault is)
+no_contents told rose inputs next file NoMemory whole within is = tt
+no_contents told rose inputs next file (ReadFault name) whole within is = absurd is
+no_contents told rose inputs next file (TooLarge name) whole within is = absurd is
+no_contents told rose inputs next file (BadConfig fault) whole within is = absurd is
+no_contents told rose inputs next file NotBuilt whole within is = absurd is
+no_contents told rose inputs next file (BadCert at) whole within is = absurd is
+no_contents told rose inputs next file (BadTrace fault) whole within is = absurd is
+
+-- ---- the description
+
+-- what follows of a description's tables
+abbrev pub ruled : (Description → Work) → Description → Work
+ruled next cfg = Ruled (IsBrokenRule cfg) (IsValid cfg) (next cfg)
+
+-- the first fault of a text is its outcome
+first_fault : (told : Option Held) (rose : List ℕ → Type 0) (image : Contents) (next : Description → Work)
+    (text : List ℕ) (fault : ConfigFault) → IsFirstFault image.symbols text fault →
+    Comes told rose (form bad_config (description image.symbols text) (ruled next)) (bad_config fault)
+first_fault told rose image next text fault (inl is) =
+    unformed told rose bad_config (description image.symbols text) (ruled next) fault is
+first_fault told rose image next text fault (inr found) =
+    after_form told rose bad_config (description image.symbols text) (ruled next) found.0 (bad_config fault) found.1
+    (inl (fault, found.2, refl))
+
+-- the text is no description
+pub no_description : (told : Option Held) (rose : List ℕ → Type 0) (config : List ℕ) (image : Contents)
+    (next : Description → Work) (text : List ℕ) (stop : Stop) → IsWhole told config text →
+    length text ≤ CONFIG_LIMIT → IsNoDescription image text stop →
+    IfSome (outcome_of stop) (Comes told rose (configured config image next))
+no_description told rose config image next text (BadConfig fault) whole within is =
+    after_read told rose config CONFIG_LIMIT (λ text. form bad_config (description image.symbols text) (ruled next))
+    text whole within (bad_config fault) (first_fault told rose image next text fault is)
+no_description told rose config image next text NoMemory whole within is = tt
+no_description told rose config image next text (ReadFault name) whole within is = absurd is
+no_description told rose config image next text (TooLarge name) whole within is = absurd is
+no_description told rose config image next text (BadImage fault) whole within is = absurd is
+no_description told rose config image next text NotBuilt whole within is = absurd is
+no_description told rose config image next text (BadCert at) whole within is = absurd is
+no_description told rose config image next text (BadTrace fault) whole within is = absurd is
+
+-- after image and description what follows of them is due
+pub after_loaded : (told : Option Held) (rose : List ℕ → Type 0) (inputs : Inputs)
+    (next : Contents → Description → Work) (image : Contents) (cfg : Description) → AreLoaded told inputs image cfg →
+    (o : Outcome) → Comes told rose (next image cfg) o → Comes told rose (loaded inputs next) o
+after_loaded told rose inputs next image cfg are o follows =
+    after_contents told rose inputs next are.file image are.file_whole are.file_within are.is_image o
+    (after_read told rose inputs.config CONFIG_LIMIT
+    (λ text. form bad_config (description image.symbols text) (ruled (next image))) are.text are.text_whole
+    are.text_within o
+    (after_form told rose bad_config (description image.symbols are.text) (ruled (next image)) cfg o are.is_description
+    (inr (are.valid, follows))))
+
+-- what comes where nothing follows of them
+pub loaded-cut : (told : Option Held) (rose : List ℕ → Type 0) (inputs : Inputs)
+    (next : Contents → Description → Work) (o : Outcome) → Comes told rose (loaded inputs (λ image cfg. Never)) o →
+    Comes told rose (loaded inputs next) o
+loaded-cut told rose inputs next o =
+    Wants-map told rose inputs.image IMAGE_LIMIT
+    (λ file. form bad_image (contents_of file) (λ image. configured inputs.config image (λ cfg. Never)))
+    (λ file. form bad_image (contents_of file) (λ image. configured inputs.config image (next image))) o
+    (λ file. form-map told rose bad_image (contents_of file)
+    (λ image. configured inputs.config image (λ cfg. Never)) (λ image. configured inputs.config image (next image)) o
+    (λ image. Wants-map told rose inputs.config CONFIG_LIMIT
+    (λ text. form bad_config (description image.symbols text) (ruled (λ cfg. Never)))
+    (λ text. form bad_config (description image.symbols text) (ruled (next image))) o
+    (λ text. form-map told rose bad_config (description image.symbols text) (ruled (λ cfg. Never))
+    (ruled (next image)) o
+    (λ cfg. Ruled-map told rose (IsBrokenRule cfg) (IsValid cfg) Never (next image cfg) o (λ no. absurd no)))))
+
+-- ---- the trace
+
+-- what follows of a trace's lines
+abbrev pub started : Description → (List Line → Work) → Gathered → Work
+started cfg next read = Ruled (IsNotStarted cfg read) (MayStart cfg (first_set cfg read.lines)) (next read.lines)
+
+-- the first fault of a text is its outcome
+trace_fault : (told : Option Held) (rose : List ℕ → Type 0) (cfg : Description) (next : List Line → Work)
+    (text : List ℕ) (fault : TraceFault) → fault ≢ NoTraceMemory → Reads cfg text (Err fault) →
+    Comes told rose (form bad_trace (scripted text) (started cfg next)) (bad_trace fault)
+trace_fault told rose cfg next text (BadLine n) some is =
+    unformed told rose bad_trace (scripted text) (started cfg next) (BadLine n) is
+trace_fault told rose cfg next text (BadNumber n) some is =
+    unformed told rose bad_trace (scripted text) (started cfg next) (BadNumber n) is
+trace_fault told rose cfg next text (NotAdmitted n) some is =
+    after_form told rose bad_trace (scripted text) (started cfg next) is.read (bad_trace (NotAdmitted n)) is.scripted
+    (inl (is.refused, ap (λ n. bad_trace (NotAdmitted n)) is.at))
+trace_fault told rose cfg next text NoTraceMemory some is = absurd (some refl)
+
+-- the text is no trace
+pub no_trace : (told : Option Held) (rose : List ℕ → Type 0) (cfg : Description) (trace : List ℕ)
+    (next : List Line → Work) (text : List ℕ) (stop : Stop) → IsWhole told trace text → length text ≤ TRACE_LIMIT →
+    IsNoTrace cfg text stop → IfSome (outcome_of stop) (Comes told rose (scripted_by cfg trace next))
+no_trace told rose cfg trace next text (BadTrace fault) whole within is =
+    after_read told rose trace TRACE_LIMIT (λ text. form bad_trace (scripted text) (started cfg next)) text whole within
+    (bad_trace fault) (trace_fault told rose cfg next text fault is.0 is.1)
+no_trace told rose cfg trace next text NoMemory whole within is = tt
+no_trace told rose cfg trace next text (ReadFault name) whole within is = absurd is
+no_trace told rose cfg trace next text (TooLarge name) whole within is = absurd is
+no_trace told rose cfg trace next text (BadImage fault) whole within is = absurd is
+no_trace told rose cfg trace next text (BadConfig fault) whole within is = absurd is
+no_trace told rose cfg trace next text NotBuilt whole within is = absurd is
+no_trace told rose cfg trace next text (BadCert at) whole within is = absurd is
+
+-- after the lines what follows of them is due
+pub after_scripted : (told : Option Held) (rose : List ℕ → Type 0) (cfg : Description) (trace : List ℕ)
+    (next : List Line → Work) (lines : List Line) → IsScripted told cfg trace lines → (o : Outcome) →
+    Comes told rose (next lines) o → Comes told rose (scripted_by cfg trace next) o
+after_scripted told rose cfg trace next lines is o follows =
+    let read = is.reads in
+    after_read told rose trace TRACE_LIMIT (λ text. form bad_trace (scripted text) (started cfg next)) is.text is.whole
+    is.within o
+    (after_form told rose bad_trace (scripted is.text) (started cfg next) read.read o read.scripted
+    (inr (
+      subst (λ (lines : List Line). MayStart cfg (first_set cfg lines)) (sym read.says) read.admitted,
+      subst (λ (lines : List Line). Comes told rose (next lines) o) (sym read.says) follows,
+    )))
+
+-- what comes where nothing follows of them
+pub scripted-cut : (told : Option Held) (rose : List ℕ → Type 0) (cfg : Description) (trace : List ℕ)
+    (next : List Line → Work) (o : Outcome) → Comes told rose (scripted_by cfg trace (λ lines. Never)) o →
+    Comes told rose (scripted_by cfg trace next) o
+scripted-cut told rose cfg trace next o =
+    Wants-map told rose trace TRACE_LIMIT (λ text. form bad_trace (scripted text) (started cfg (λ lines. Never)))
+    (λ text. form bad_trace (scripted text) (started cfg next)) o
+    (λ text. form-map told rose bad_trace (scripted text) (started cfg (λ lines. Never)) (started cfg next) o
+    (λ read. Ruled-map told rose (IsNotStarted cfg read) (MayStart cfg (first_set cfg read.lines)) Never
+    (next read.lines) o (λ no. absurd no)))
