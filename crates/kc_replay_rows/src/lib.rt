@@ -1,0 +1,11 @@
+//! Runs of the mode `replay`, as tables of cases.
+#![tactic(auto)]
+
+#[cfg(test)]
+mod faults;
+#[cfg(test)]
+mod rows;
+#[cfg(test)]
+mod runner;
+#[cfg(test)]
+mod table;
