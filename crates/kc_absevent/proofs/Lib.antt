@@ -3,3 +3,5 @@ pub mod GateLemmas
 pub mod RegionLemmas
 pub mod ByteLemmas
 pub mod FaultLemmas
+pub mod EntryForms
+pub mod ReturnForms

@@ -6,6 +6,7 @@ ghost use Rattle.kc_value.specs.Made.{IsPlace};
 ghost use Rattle.kc_state.specs.declared.key.Key.{Key as KeyValue};
 ghost use Rattle.kc_state.specs.AbsEvents.{HasStack};
 ghost use Rattle.kc_state.specs.Memory.{is_same_stack};
+ghost use Rattle.kc_state.specs.WellFormed.{IsStateWellFormed};
 ghost use Rattle.kc_state.specs.AbsReturn.{is_clobbered, is_protected, is_offset_protected, loses_bytes, loses_word, loses, kept, returned};
 
 use kc_frames::{Change, Clobber};
@@ -135,11 +136,29 @@ impl<'a> Change<Value> for Kept<'a> {
     }
 }
 
+// The state after the return.
+#[tactic(auto, using(kc_state::proofs::KeyLemmas::key_place))]
+fn put_back(cfg: &Config, key: &Key, state: &AbsState, summary: &Summary, back: &mut AbsState)
+    requires stack { HasStack cfg.now key.now }
+    ensures { back.new ≡ returned cfg.now key.now state.now summary.now }
+{
+    cfg.tell();
+    let home = is_clobbered(&summary.clobber, key.stack);
+    back.copy_from(state);
+    back.latches = summary.latches;
+    back.slots.redo(&Kept {
+        cfg,
+        key,
+        rsp: loc(key, &state.regs[RSP]),
+        clobber: summary.clobber,
+        home,
+    });
+}
+
 /// What is known at the site after an event's return, in `out.back`: the latches are those of the
 /// summary of the context that ran, a tracked word that it may have written is unknown, and so is a word
-/// in a stack that it may have written, but for those at or above RSP in the same stack. It takes no
-/// memory.
-#[tactic(auto, using(kc_state::proofs::KeyLemmas::key_place))]
+/// in a stack that it may have written, but for those at or above RSP in the same stack. Where `state`
+/// is well-formed, so is that. It takes no memory.
 pub fn after_return(
     cfg: &Config,
     key: &Key,
@@ -151,17 +170,8 @@ pub fn after_return(
     requires stack { HasStack cfg.now key.now }
     ensures value { out.new.back ≡ returned cfg.now key.now state.now summary.now }
     ensures out { out.new.out ≡ out.old.out }
+    ensures well_formed { IsStateWellFormed cfg.now key.now state.now
+        → IsStateWellFormed cfg.now key.now out.new.back }
 {
-    cfg.tell();
-    let home = is_clobbered(&summary.clobber, key.stack);
-    let back = &mut out.back;
-    back.copy_from(state);
-    back.latches = summary.latches;
-    back.slots.redo(&Kept {
-        cfg,
-        key,
-        rsp: loc(key, &state.regs[RSP]),
-        clobber: summary.clobber,
-        home,
-    });
+    put_back(cfg, key, state, summary, &mut out.back);
 }

@@ -1,13 +1,16 @@
 //! The delivery of an event, over abstract states (Intel SDM vol. 3A, "64-Bit Mode Stack Frame" and
 //! "Interrupt Stack Table").
 
-ghost use Rattle.std.specs.Prelude.{◌≡◌, ◌≤◌, ◌&&◌, ◌||◌, not, is_some, true, IsSome, IfSome, Option, Some};
+ghost use Rattle.std.specs.Prelude.{◌≡◌, ◌≤◌, ◌&&◌, ◌||◌, not, is_some, true, IsSome, IfSome, IfOk, Option, Some, length};
 ghost use Rattle.kc_regions.specs.Lookup.{gate_of};
+ghost use Rattle.kc_regions.specs.Region.{stacks_of};
 ghost use Rattle.kc_value.specs.Made.{IsPlace};
 ghost use Rattle.kc_insn.specs.Encodable.{is_encodable};
 ghost use Rattle.kc_state.specs.AbsEffect.{moment_of};
 ghost use Rattle.kc_state.specs.AbsEvents.{HasStack};
 ghost use Rattle.kc_state.specs.Conditions.{clear_at, is_exact};
+ghost use Rattle.kc_state.specs.Key.{IsKey};
+ghost use Rattle.kc_state.specs.WellFormed.{IsStateWellFormed, IsUserWellFormed};
 ghost use Rattle.kc_state.specs.AbsDelivery.{delivered_from, delivered_at, delivered_below, delivered, delivery, user_delivery, user_entry};
 ghost use Rattle.kc_absevent.specs.Ends.{Delivers};
 
@@ -175,8 +178,9 @@ fn may_deliver(
 }
 
 /// Delivers the event of this vector at a site: the context that is entered and, in `out.out`, what is
-/// known there. C14 comes exactly where there is no permitted frame, and then `out` is as before. It
-/// takes no memory.
+/// known there. C14 comes exactly where there is no permitted frame, and then `out` is as before. The
+/// key keeps the rules of keys, and where `state` is well-formed for `key`, the entry state is for the
+/// one that is entered. It takes no memory.
 pub fn deliver_abs(
     cfg: &Config,
     key: &Key,
@@ -190,7 +194,11 @@ pub fn deliver_abs(
     requires stack { HasStack cfg.now key.now }
     requires gate { IsSome (gate_of cfg.now.gates vector) }
     ensures value { Delivers result out.old out.new (delivery cfg.now key.now site.now state.now insn.now vector) }
+    ensures key { IfOk result (IsKey (length (stacks_of cfg.now.regions))) }
+    ensures well_formed { IsStateWellFormed cfg.now key.now state.now
+        → IfOk result (λ k. IsStateWellFormed cfg.now k out.new.out) }
 {
+    cfg.tell();
     let handler = handler_called_by(cfg, insn);
     if !may_deliver(cfg, key, site, state, handler) {
         return Err(REFUSED);
@@ -223,6 +231,8 @@ pub fn deliver_user(
 ) -> Result<Key, Condition>
     requires gate { IfSome entry (λ v. IsSome (gate_of cfg.now.gates v)) }
     ensures value { Delivers result out.old out.new (user_entry cfg.now user.now entry) }
+    ensures key { IfOk result (IsKey (length (stacks_of cfg.now.regions))) }
+    ensures well_formed { IsUserWellFormed user.now → IfOk result (λ k. IsStateWellFormed cfg.now k out.new.out) }
 {
     match entry {
         Some(v) => deliver_user_vector(cfg, user, v, out),

@@ -5,3 +5,5 @@ pub mod ScaleLemmas
 pub mod ShiftLemmas
 pub mod SlotLemmas
 pub mod StackLemmas
+pub mod ValueForms
+pub mod MomentForms

@@ -9,6 +9,7 @@ use Rattle.kc_value.specs.declared.symbol.Sym.{Sym}
 use Rattle.kc_value.specs.declared.symbol.Sym.TheVariants.{Plain, Base, Entry, UserGs}
 use Rattle.kc_state.specs.declared.key.Key.{Key}
 use Rattle.kc_state.specs.declared.state.AbsState.{AbsState}
+use Rattle.kc_state.specs.declared.user.UserState.{UserState}
 
 -- A value of the base knows no bit. One of the user's GS base doesn't know bit 0. The interrupted RSP with all bits
 -- known is a number in the stack of the key, or in none where the key has none.
@@ -26,3 +27,7 @@ pub record IsStateWellFormed (d : Description) (key : Key) (s : AbsState) : Type
   pub regs : All (IsWellFormed d key) s.regs
   pub flags : IsWellFormed d key s.flags
   pub slots : All (IsWellFormed d key) s.slots
+
+-- While the user runs no value lies nowhere. Its symbols don't matter: an entry drops them.
+abbrev pub IsUserWellFormed : UserState → Type 0
+IsUserWellFormed u = All (λ v. v.stacks ≢ 0) u.slots

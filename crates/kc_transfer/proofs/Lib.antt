@@ -1,4 +1,2 @@
 pub mod MaskLemmas
-pub mod ValueForms
-pub mod MomentForms
 pub mod StepForms

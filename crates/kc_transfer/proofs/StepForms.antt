@@ -51,8 +51,8 @@ use Rattle.kc_state.specs.declared.succ.Succ.{Succ}
 use Rattle.kc_state.specs.declared.succ.Succ.TheVariants.{Falls, Jumps, Branches, Calls, Returns}
 use Rattle.kc_state.specs.declared.scratch.Scratch.{Scratch}
 use Rattle.kc_transfer.specs.Step.{Steps}
-use Rattle.kc_transfer.proofs.ValueForms.{one_place, any_place, value_if, bits_formed, number_formed, top_formed, plain_formed, width_formed, shifted_formed, other_places, joined_formed, each_read, each_set}
-use Rattle.kc_transfer.proofs.MomentForms.{IsMomentFormed, load_formed, register_formed, effective_formed, operand_formed, destination_formed, redone_formed, stored_formed}
+use Rattle.kc_state.proofs.ValueForms.{one_place, any_place, value_if, bits_formed, number_formed, top_formed, plain_formed, width_formed, shifted_formed, other_places, joined_formed, each_read, each_set}
+use Rattle.kc_state.proofs.MomentForms.{IsMomentFormed, load_formed, register_formed, effective_formed, operand_formed, destination_formed, redone_formed, stored_formed}
 
 -- ---- changes
 

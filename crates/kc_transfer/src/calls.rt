@@ -1,14 +1,15 @@
 //! What is known at the body of a handler after its call. This project's own.
 
 ghost use Rattle.std.specs.Prelude.{◌≡◌};
+ghost use Rattle.kc_frames.specs.Slots.{redone};
 ghost use Rattle.kc_regions.specs.declared.entry.Handler.{Handler as TheHandler};
 ghost use Rattle.kc_state.specs.Calls.{moved_down, used, called_at, called};
 ghost use Rattle.kc_state.specs.Places.{location_stack};
 ghost use Rattle.kc_state.specs.AbsStep.{with_call, entered};
 
-use crate::edits::edit;
+use crate::edits::edit_frame;
 use crate::handler_call::{frame_of, handler_at};
-use kc_frames::Change;
+use kc_frames::{Change, Slots};
 use kc_regions::{Config, Handler};
 use kc_state::{AbsState, Key, Location, Succ, hits, loc, stack_at};
 use kc_value::Value;
@@ -46,23 +47,27 @@ impl<'a> Change<Value> for Used<'a> {
     }
 }
 
+/// What a handler that uses `depth` bytes below `l`, which is RSP, leaves of the slots: those that it may
+/// have changed become the top. It takes no memory.
+pub fn use_stack(cfg: &Config, key: &Key, l: Location, depth: u32, slots: &mut Slots<Value>)
+    ensures value { slots.new ≡ redone (used cfg.now key.now l depth) 0 slots.old }
+{
+    slots.redo(&Used { cfg, key, l, depth });
+}
+
 fn enter_at(cfg: &Config, key: &Key, h: &Handler, s: &mut AbsState, at: Option<Location>)
     ensures { s.new ≡ called_at cfg.now key.now h.now s.old at }
 {
     if let Some(l) = at {
-        s.slots.redo(&Used {
-            cfg,
-            key,
-            l,
-            depth: h.stack,
-        });
-        edit(cfg, key, frame_of(key, h), l, s);
+        use_stack(cfg, key, l, h.stack, &mut s.slots);
+        edit_frame(cfg, key, frame_of(key, h), l, s);
     }
 }
 
-// What the call of the handler changes after the push.
-fn enter(cfg: &Config, key: &Key, h: &Handler, s: &mut AbsState)
-    ensures { s.new ≡ called cfg.now key.now h.now s.old }
+/// What the call of the handler leaves of the state after the push: the slots that its stack may change,
+/// and the words that it may edit. It takes no memory.
+pub fn enter_handler(cfg: &Config, key: &Key, h: &Handler, s: &mut AbsState)
+    ensures value { s.new ≡ called cfg.now key.now h.now s.old }
 {
     let at = loc(key, &s.regs[4]);
     enter_at(cfg, key, h, s, at);
@@ -74,7 +79,7 @@ pub(crate) fn enter_called(cfg: &Config, key: &Key, succ: Succ, s: &mut AbsState
 {
     if let Succ::Calls(h) = succ {
         if let Some(handler) = handler_at(cfg, h) {
-            enter(cfg, key, &handler, s);
+            enter_handler(cfg, key, &handler, s);
         }
     }
 }

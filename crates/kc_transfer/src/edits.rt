@@ -118,9 +118,11 @@ fn tame_each(items: &mut [Value])
     }
 }
 
-// What the handler may have edited, where the frame's RIP is `frame` bytes above `l`, if it may.
-pub(crate) fn edit(cfg: &Config, key: &Key, frame: Option<u32>, l: Location, s: &mut AbsState)
-    ensures { s.new ≡ with_edits cfg.now key.now frame l s.old }
+/// What a handler leaves that may edit the user's frame, whose RIP is `frame` bytes above `l`, if it may:
+/// the three words are joined with what an edit writes, and no other value has their symbols. It takes
+/// no memory.
+pub fn edit_frame(cfg: &Config, key: &Key, frame: Option<u32>, l: Location, s: &mut AbsState)
+    ensures value { s.new ≡ with_edits cfg.now key.now frame l s.old }
 {
     if let Some(f) = frame {
         tame_each(&mut s.regs);

@@ -27,7 +27,9 @@ mod system;
 mod table;
 
 pub use accesses::{Access, Accesses, accesses_of};
+pub use calls::{enter_handler, use_stack};
 pub use changed::{Changed, Store};
+pub use edits::edit_frame;
 pub use kc_state::Succ;
 pub use leave::leave_abs;
 pub use step::{has_stack, transfer};

@@ -6,7 +6,9 @@ use Rattle.kc_state.specs.AbsDelivery.{delivered, by_gate, delivery}
 use Rattle.kc_state.specs.AbsEffect.{moment_of}
 use Rattle.kc_state.specs.AbsEvents.{handler_called_by}
 use Rattle.kc_state.specs.Conditions.{is_exact}
+use Rattle.kc_state.specs.WellFormed.{IsStateWellFormed}
 use Rattle.kc_absevent.specs.Ends.{Delivers}
+use Rattle.kc_absevent.proofs.EntryForms.{delivery_entry, ends_keyed, ends_formed}
 use Rattle.kc_absevent.proofs.delivery.deliver_abs.Goals as goal
 
 -- through the gate that the vector has
@@ -26,7 +28,13 @@ returns c =
     (λ j. delivered d key site s (c.handler_called_by-handler.ensures j) c.gate_at-gate.result)
     ∙ sym (ap (by_gate (delivered d key site s h)) c.gate_at-gate.ensures.gate)
     ∙ sym (λ j. if fine j then by_gate (delivered d key site s h) (gate_of d.gates c.args.vector) else None) in
+    let delivers = subst (Delivers c.deliver_through.result c.args.out.now c.deliver_through.new.out) same
+    c.deliver_through.ensures in
+    let entry = delivery_entry d key site s c.args.insn.now c.args.vector c.tell.ensures.valid c.requires.stack in
     record {
-      value = subst (Delivers c.deliver_through.result c.args.out.now c.deliver_through.new.out) same
-          c.deliver_through.ensures;
+      value = delivers;
+      key = ends_keyed d (IsStateWellFormed d key s) c.deliver_through.result c.args.out.now c.deliver_through.new.out
+          (delivery d key site s c.args.insn.now c.args.vector) delivers entry;
+      well_formed = ends_formed d (IsStateWellFormed d key s) c.deliver_through.result c.args.out.now
+          c.deliver_through.new.out (delivery d key site s c.args.insn.now c.args.vector) delivers entry;
     }

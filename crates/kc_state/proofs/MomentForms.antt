@@ -27,7 +27,7 @@ use Rattle.kc_state.specs.Places.{word_of, location_stack}
 use Rattle.kc_state.specs.WellFormed.{IsWellFormed}
 use Rattle.kc_state.specs.declared.key.Key.{Key}
 use Rattle.kc_state.specs.declared.location.Location.{Location}
-use Rattle.kc_transfer.proofs.ValueForms.{value_if, derived_formed, bits_formed, number_formed, top_formed, width_formed, shifted_formed, each_read}
+use Rattle.kc_state.proofs.ValueForms.{value_if, derived_formed, bits_formed, number_formed, top_formed, width_formed, shifted_formed, each_read}
 
 pub record IsMomentFormed (m : AbsMoment) : Type 0 where
   pub regs : All (IsWellFormed m.d m.key) m.cpu.regs
@@ -96,13 +96,18 @@ destination_formed m w dest h = operand_formed m w (source_of dest) h
 
 -- ---- changes of slots
 
+pub redone_all : (P Q : AbsValue → Type 0) (f : ℕ → AbsValue → AbsValue) (i : ℕ) (slots : List AbsValue)
+    → ((j : ℕ) (v : AbsValue) → P v → Q (f j v)) → All P slots
+    → All Q (redone f i slots)
+redone_all P Q f i [] each h = All-nil Q
+redone_all P Q f i (v ∷ vs) each h =
+    All-cons Q (f i v) (redone f (suc i) vs) (each i v (All-head P v vs h))
+    (redone_all P Q f (suc i) vs each (All-tail P v vs h))
+
 pub redone_formed : (d : Description) (key : Key) (f : ℕ → AbsValue → AbsValue) (i : ℕ) (slots : List AbsValue)
     → ((j : ℕ) (v : AbsValue) → IsWellFormed d key v → IsWellFormed d key (f j v)) → All (IsWellFormed d key) slots
     → All (IsWellFormed d key) (redone f i slots)
-redone_formed d key f i [] each h = All-nil (IsWellFormed d key)
-redone_formed d key f i (v ∷ vs) each h =
-    All-cons (IsWellFormed d key) (f i v) (redone f (suc i) vs) (each i v (All-head (IsWellFormed d key) v vs h))
-    (redone_formed d key f (suc i) vs each (All-tail (IsWellFormed d key) v vs h))
+redone_formed d key f i slots each h = redone_all (IsWellFormed d key) (IsWellFormed d key) f i slots each h
 
 pub stored_formed : (d : Description) (key : Key) (l : Location) (size : ℕ) (v : AbsValue) (i : ℕ) (old : AbsValue)
     → IsWellFormed d key v → IsWellFormed d key old → IsWellFormed d key (stored d key l size v i old)
