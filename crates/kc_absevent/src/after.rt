@@ -12,7 +12,7 @@ ghost use Rattle.kc_state.specs.AbsReturn.{is_clobbered, is_protected, is_offset
 use kc_frames::{Change, Clobber};
 use kc_lattice::Domain;
 use kc_regions::Config;
-use kc_state::{AbsState, Key, Location, Scratch, Site, Summary, loc, word_of};
+use kc_state::{AbsState, Key, Location, Scratch, Site, SlotWords, Summary, loc};
 use kc_value::Value;
 
 // RSP's number among the registers.
@@ -104,32 +104,32 @@ fn loses_word(
 
 #[derive(Drop)]
 struct Kept<'a> {
-    cfg: &'a Config,
-    key: &'a Key,
+    words: SlotWords<'a>,
     rsp: Option<Location>,
     clobber: Clobber,
     /// Whether the key's stack may have been written.
     home: bool,
-    ghost its_home: { home ≡ is_clobbered clobber key.now.stack },
+    ghost its_home: { home ≡ is_clobbered clobber words.key.now.stack },
 }
 
 impl<'a> Kept<'a> {
     // Whether slot `i` may have changed.
     fn loses(&self, i: u16) -> bool
         requires { i < 296 }
-        ensures { result ≡ loses self.now.cfg.now self.now.key.now self.now.rsp self.now.clobber i }
+        ensures { result ≡ loses self.now.words.cfg.now self.now.words.key.now self.now.rsp self.now.clobber i }
     {
         if i < 40 {
             self.clobber.has_word(i)
         } else {
-            let w = word_of(self.cfg, self.key, i);
-            loses_word(self.cfg, self.rsp, &self.clobber, self.home, w)
+            let words = &self.words;
+            let w = words.at(i);
+            loses_word(words.cfg, self.rsp, &self.clobber, self.home, w)
         }
     }
 }
 
 impl<'a> Change<Value> for Kept<'a> {
-    ghost changed = { λ s. kept s.cfg.now s.key.now s.rsp s.clobber };
+    ghost changed = { λ s. kept s.words.cfg.now s.words.key.now s.rsp s.clobber };
 
     fn at(&self, i: u16, old: &Value) -> Value {
         if self.loses(i) { Value::top() } else { *old }
@@ -147,8 +147,7 @@ fn put_back(cfg: &Config, key: &Key, state: &AbsState, summary: &Summary, back: 
     back.copy_from(state);
     back.latches = summary.latches;
     back.slots.redo(&Kept {
-        cfg,
-        key,
+        words: SlotWords::of(cfg, key),
         rsp: loc(key, &state.regs[RSP]),
         clobber: summary.clobber,
         home,

@@ -1,6 +1,7 @@
 pub mod AccessLemmas
 pub mod EntryLemmas
 pub mod KeyLemmas
+pub mod MarkLemmas
 pub mod ScaleLemmas
 pub mod ShiftLemmas
 pub mod SlotLemmas

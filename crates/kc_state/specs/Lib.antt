@@ -1,6 +1,7 @@
 pub mod Key
 pub mod Location
 pub mod Places
+pub mod Marks
 pub mod Access
 pub mod Shift
 pub mod Memory

@@ -4,7 +4,7 @@ ghost use Rattle.std.specs.Prelude.{◌≡◌, ◌<◌, ◌≤◌, Some, option_
 ghost use Rattle.kc_regions.specs.Region.{marked_of};
 ghost use Rattle.kc_bits.specs.Bits.{word};
 ghost use Rattle.kc_regions.specs.Lookup.{tss_word};
-ghost use Rattle.kc_state.specs.Places.{location_stack, is_interrupted_rsp, value_stack, home_stack, tracked_word, base_word, marked_word, word_of};
+ghost use Rattle.kc_state.specs.Places.{location_stack, is_interrupted_rsp, value_stack, home_stack, tracked_word, base_word, word_of};
 
 use crate::key::Key;
 use crate::location::{Location, loc};
@@ -46,19 +46,17 @@ pub fn home(cfg: &Config, key: &Key) -> Option<u8>
     }
 }
 
-/// The word of slot `i` in a context with this key; none where the slot stands for no word.
-pub fn word_of(cfg: &Config, key: &Key, i: u16) -> Option<Location>
-    requires { i < 296 }
-    ensures value { result ≡ word_of cfg.now key.now i }
+// The word of a slot below 104, which stands for no word of a marked stack.
+pub(crate) fn near_word(cfg: &Config, key: &Key, i: u16) -> Option<Location>
+    requires { i < 104 }
+    ensures { result ≡ word_of cfg.now key.now i }
 {
     if i < 8 {
         Some(Location::Number(tss_address(cfg.cpu.tss, i)))
     } else if i < 40 {
         tracked(cfg, i - 8)
-    } else if i < 104 {
-        below_base(key, i - 39)
     } else {
-        below_top(cfg, (i - 104) / 64, (i - 104) % 64 + 1)
+        below_base(key, i - 39)
     }
 }
 
@@ -104,15 +102,4 @@ pub(crate) fn marked_stack(regions: &[Region], m: usize) -> Option<&Region>
         .filter(|r| r.kind.is_stack())
         .filter(|r| r.marked)
         .nth(m)
-}
-
-// The n-th word below the top of marked stack `m`.
-fn below_top(cfg: &Config, m: u16, n: u16) -> Option<Location>
-    requires { n ≤ 64 }
-    ensures { result ≡ marked_word cfg.now m n }
-{
-    match marked_stack(cfg.regions.list(), usize::from(m)) {
-        Some(r) => Some(Location::Number(r.span.to.wrapping_sub(8 * u64::from(n)))),
-        None => None,
-    }
 }

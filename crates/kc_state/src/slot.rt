@@ -3,13 +3,14 @@
 ghost use Rattle.std.specs.Prelude.{◌≡◌, ◌≤◌, ◌<◌, ◌*◌, ◌/◌, ◌^◌, Some};
 ghost use Rattle.kc_words.specs.Flags.{bits_of};
 ghost use Rattle.kc_frames.specs.Slots.{redone};
-ghost use Rattle.kc_state.specs.Memory.{distance, offset_in, bits_from, part_of, loaded, is_below, meets, meets_word, is_same_stack, is_marked_slot, hits, is_just, stored};
+ghost use Rattle.kc_state.specs.Memory.{distance, offset_in, bits_from, part_of, loaded, is_below, meets, meets_word, is_same_stack, is_just, stored};
 ghost use Rattle.kc_state.specs.Places.{location_stack};
 
 use crate::key::Key;
 use crate::location::Location;
-use crate::places::{marked_stack, stack_at, word_of};
+use crate::places::stack_at;
 use crate::shifts::derived;
+use crate::slot_words::SlotWords;
 use kc_bits::Bits;
 use kc_frames::{Change, Slots};
 use kc_regions::Config;
@@ -24,8 +25,9 @@ pub fn load(cfg: &Config, key: &Key, slots: &Slots<Value>, l: Location, width: W
 {
     slots.whole();
     let size = size_of(width);
+    let words = SlotWords::of(cfg, key);
     for i in 0..296 {
-        if let Some(off) = offset_in(l, size, word_of(cfg, key, i)) {
+        if let Some(off) = offset_in(l, size, words.at(i)) {
             return part_of(cfg, width, slots.get(i), off);
         }
     }
@@ -95,8 +97,7 @@ pub fn store(cfg: &Config, key: &Key, slots: &mut Slots<Value>, l: Location, siz
     ensures value { slots.new ≡ redone (stored cfg.now key.now l size v.now) 0 slots.old }
 {
     slots.redo(&Stored {
-        cfg,
-        key,
+        words: SlotWords::of(cfg, key),
         l,
         stack: stack_at(cfg, key, l),
         size,
@@ -106,30 +107,22 @@ pub fn store(cfg: &Config, key: &Key, slots: &mut Slots<Value>, l: Location, siz
 
 #[derive(Drop)]
 struct Stored<'a> {
-    cfg: &'a Config,
-    key: &'a Key,
+    words: SlotWords<'a>,
     l: Location,
     stack: Option<u8>,
     size: u8,
     v: Value,
-    ghost its_stack: { stack ≡ location_stack cfg.now key.now (Some l) },
+    ghost its_stack: { stack ≡ location_stack words.cfg.now words.key.now (Some l) },
 }
 
 impl<'a> Change<Value> for Stored<'a> {
-    ghost changed = { λ s. stored s.cfg.now s.key.now s.l s.size s.v };
+    ghost changed = { λ s. stored s.words.cfg.now s.words.key.now s.l s.size s.v };
 
     fn at(&self, i: u16, old: &Value) -> Value {
-        let w = word_of(self.cfg, self.key, i);
-        if is_just(self.l, self.size, w) {
+        let words = &self.words;
+        if is_just(self.l, self.size, words.at(i)) {
             self.v
-        } else if hits(
-            self.cfg,
-            self.key,
-            self.stack,
-            self.l,
-            u32::from(self.size),
-            i,
-        ) {
+        } else if words.hits(self.stack, self.l, u32::from(self.size), i) {
             Value::top()
         } else {
             *old
@@ -144,23 +137,6 @@ pub fn is_just(l: Location, size: u8, w: Option<Location>) -> bool
     match w {
         Some(w) => size == 8 && distance(l, w) == Some(0),
         None => false,
-    }
-}
-
-/// Whether a change of the `size` bytes at `l`, which belong to this stack, may change the word of slot
-/// `i`.
-pub fn hits(cfg: &Config, key: &Key, stack: Option<u8>, l: Location, size: u32, i: u16) -> bool
-    requires { i < 296 }
-    ensures value { result ≡ hits cfg.now key.now stack l size i }
-{
-    if meets_word(l, size, word_of(cfg, key, i)) {
-        return true;
-    }
-    match l {
-        Location::Number(_) => {
-            key.base.is_none() && is_same_stack(stack, key.stack) && 40 <= i && i < 104
-        }
-        Location::Relative(_) => is_marked_slot(cfg, key.stack, i),
     }
 }
 
@@ -190,24 +166,11 @@ fn is_within(distance: Option<u64>, size: u32) -> bool
     }
 }
 
-fn is_same_stack(one: Option<u8>, other: Option<u8>) -> bool
+pub(crate) fn is_same_stack(one: Option<u8>, other: Option<u8>) -> bool
     ensures { result ≡ is_same_stack one other }
 {
     match (one, other) {
         (Some(s), Some(t)) => s == t,
         _ => false,
-    }
-}
-
-fn is_marked_slot(cfg: &Config, stack: Option<u8>, i: u16) -> bool
-    requires { i < 296 }
-    ensures { result ≡ is_marked_slot cfg.now stack i }
-{
-    if i < 104 {
-        return false;
-    }
-    match marked_stack(cfg.regions.list(), usize::from((i - 104) / 64)) {
-        Some(r) => is_same_stack(cfg.regions.stack_of(r.span.to.wrapping_sub(1)), stack),
-        None => false,
     }
 }

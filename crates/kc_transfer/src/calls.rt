@@ -11,7 +11,7 @@ use crate::edits::edit_frame;
 use crate::handler_call::{frame_of, handler_at};
 use kc_frames::{Change, Slots};
 use kc_regions::{Config, Handler};
-use kc_state::{AbsState, Key, Location, Succ, hits, loc, stack_at};
+use kc_state::{AbsState, Key, Location, SlotWords, Succ, loc, stack_at};
 use kc_value::Value;
 
 // `n` bytes below a location: addresses wrap, and offsets do as signed words.
@@ -27,19 +27,20 @@ fn moved_down(l: Location, n: u32) -> Location
 // What a handler that uses `depth` bytes below `l`, which is RSP, may change.
 #[derive(Drop)]
 struct Used<'a> {
-    cfg: &'a Config,
-    key: &'a Key,
+    words: SlotWords<'a>,
+    stack: Option<u8>,
     l: Location,
     depth: u32,
+    ghost its_stack: { stack ≡ location_stack words.cfg.now words.key.now (Some l) },
 }
 
 impl<'a> Change<Value> for Used<'a> {
-    ghost changed = { λ u. used u.cfg.now u.key.now u.l u.depth };
+    ghost changed = { λ u. used u.words.cfg.now u.words.key.now u.l u.depth };
 
     fn at(&self, i: u16, old: &Value) -> Value {
-        let stack = stack_at(self.cfg, self.key, self.l);
+        let words = &self.words;
         let from = moved_down(self.l, self.depth);
-        if hits(self.cfg, self.key, stack, from, self.depth, i) {
+        if words.hits(self.stack, from, self.depth, i) {
             Value::top()
         } else {
             *old
@@ -52,7 +53,12 @@ impl<'a> Change<Value> for Used<'a> {
 pub fn use_stack(cfg: &Config, key: &Key, l: Location, depth: u32, slots: &mut Slots<Value>)
     ensures value { slots.new ≡ redone (used cfg.now key.now l depth) 0 slots.old }
 {
-    slots.redo(&Used { cfg, key, l, depth });
+    slots.redo(&Used {
+        words: SlotWords::of(cfg, key),
+        stack: stack_at(cfg, key, l),
+        l,
+        depth,
+    });
 }
 
 fn enter_at(cfg: &Config, key: &Key, h: &Handler, s: &mut AbsState, at: Option<Location>)

@@ -9,7 +9,7 @@ use kc_bits::Bits;
 use kc_frames::Change;
 use kc_lattice::Domain;
 use kc_regions::Config;
-use kc_state::{AbsState, Key, Location, is_just, meets_word, moved_up, word_of};
+use kc_state::{AbsState, Key, Location, SlotWords, is_just, meets_word, moved_up};
 use kc_value::{Sym, Value};
 
 // RIP below 2^47.
@@ -97,16 +97,16 @@ fn edited_by(w: Option<Location>, l: Location, old: &Value) -> Value
 // The edits of a frame whose RIP is at `l`.
 #[derive(Drop)]
 struct Edits<'a> {
-    cfg: &'a Config,
-    key: &'a Key,
+    words: SlotWords<'a>,
     l: Location,
 }
 
 impl<'a> Change<Value> for Edits<'a> {
-    ghost changed = { λ e. edited e.cfg.now e.key.now e.l };
+    ghost changed = { λ e. edited e.words.cfg.now e.words.key.now e.l };
 
     fn at(&self, i: u16, old: &Value) -> Value {
-        edited_by(word_of(self.cfg, self.key, i), self.l, old)
+        let words = &self.words;
+        edited_by(words.at(i), self.l, old)
     }
 }
 
@@ -128,8 +128,7 @@ pub fn edit_frame(cfg: &Config, key: &Key, frame: Option<u32>, l: Location, s: &
         tame_each(&mut s.regs);
         s.flags = tame(&s.flags);
         s.slots.redo(&Edits {
-            cfg,
-            key,
+            words: SlotWords::of(cfg, key),
             l: moved_up(l, f),
         });
     }
