@@ -1,7 +1,7 @@
 -- What a delivery enters: its key keeps the rules of keys, and where what is interrupted is well-formed for its own key,
 -- the entry state is for the one that is entered. The one word that asks for a reason is the saved RSP: where all its
 -- bits are known, it is a number in the stack of the new key.
-use Rattle.std.proofs.Common.{◌≡◌, ◌≢◌, ℕ, zero, suc, ◌+◌, ◌-◌, ◌^◌, ◌<◌, ◌≤◌, Bool, true, false, cond, not, ◌&&◌, ◌||◌, ◌==◌, nat_le, if◌then◌else◌, List, [], ◌∷◌, length, get_or, slice_set, bit_xor, All, Option, Some, None, IfSome, IfOk, is_some, option_map, Result, Ok, Err, ℤ, pos, neg_ℤ, arith, lit≤, refl, sym, subst, ◌∙◌}
+use Rattle.std.proofs.Common.{◌≡◌, ◌≢◌, ℕ, zero, suc, ◌+◌, ◌-◌, ◌^◌, ◌<◌, ◌≤◌, Bool, true, false, cond, not, ◌&&◌, ◌||◌, ◌==◌, nat_le, if◌then◌else◌, List, [], ◌∷◌, length, get_or, slice_set, bit_xor, All, Option, Some, None, IfSome, IfOk, is_some, option_map, Result, Ok, Err, arith, lit≤, refl, sym, subst}
 use Rattle.std.specs.Int.Count.{count_leading_zeros}
 use Rattle.std.proofs.Math.Nat.{pow-le-pow_right}
 use Rattle.std.proofs.lemmas.Bool.{eqb-true}
@@ -29,7 +29,7 @@ use Rattle.kc_value.specs.Place.{place_bit}
 use Rattle.kc_value.specs.Value.{value_top}
 use Rattle.kc_value.specs.declared.symbol.Sym.{Sym}
 use Rattle.kc_value.specs.declared.symbol.Sym.TheVariants.{Plain, Base, Entry, UserGs}
-use Rattle.kc_state.specs.AbsDelivery.{entry_of, own_register, in_region, is_relative, own_rsp, own_flags, own_rip, frame_words, interrupted_at, user_registers, interrupted_user, entered_slot, entered, entered_key, delivered_from, delivered_at, delivered_below, delivered, by_gate, delivery, user_delivery, syscall_state, syscall_key, user_entry, own_frame, frame_size, may_touch, may_push, stack_taken, aligned, with_floor, chosen_rsp}
+use Rattle.kc_state.specs.AbsDelivery.{entry_of, own_register, in_region, is_relative, own_rsp, frame_words, interrupted_at, user_registers, interrupted_user, entered_slot, entered, entered_key, delivered_from, delivered_at, delivered_below, delivered, by_gate, delivery, syscall_key, user_entry, own_frame, frame_size, may_touch, may_push, stack_taken, aligned, with_floor, chosen_rsp}
 use Rattle.kc_state.specs.AbsEffect.{moment_of}
 use Rattle.kc_state.specs.Access.{is_stack_present}
 use Rattle.kc_state.specs.AbsEvents.{HasStack, IsStackOf, handler_called_by}
@@ -44,13 +44,13 @@ use Rattle.kc_state.specs.declared.condition.Condition.{Condition}
 use Rattle.kc_state.specs.declared.interrupted.Interrupted.{Interrupted}
 use Rattle.kc_state.specs.declared.key.Key.{Key}
 use Rattle.kc_state.specs.declared.location.Location.{Location}
-use Rattle.kc_state.specs.declared.location.Location.TheVariants.{Number, Relative}
+use Rattle.kc_state.specs.declared.location.Location.TheVariants.{Number}
 use Rattle.kc_state.specs.declared.scratch.Scratch.{Scratch}
 use Rattle.kc_state.specs.declared.site.Site.{Site}
 use Rattle.kc_state.specs.declared.state.AbsState.{AbsState}
 use Rattle.kc_state.specs.declared.user.UserState.{UserState}
 use Rattle.kc_state.proofs.MomentForms.{redone_all}
-use Rattle.kc_state.proofs.ValueForms.{one_place, any_place, value_if, number_formed, top_formed, each_read, each_set}
+use Rattle.kc_state.proofs.ValueForms.{one_place, any_place, value_if, number_formed, each_read, each_set}
 use Rattle.kc_absevent.specs.Ends.{Delivers}
 use Rattle.kc_absevent.proofs.RegionLemmas.{value_among}
 
@@ -322,12 +322,12 @@ module _ (d : Description) (F : Type 0) (i : Interrupted) (slots : List AbsValue
 
     from_entry : (base : ℕ) → IfSome (delivered_from d i slots g base) (IsEntry d F)
     from_entry base =
-      let n : ℕ = frame_size g.vector in
-      let rsp : ℕ = below_address base n in
-      some_if (IsEntry d F)
-      (may_touch d i.map g.vector (stack_taken g.ist i.kernel) && may_push d i.map i.floors base n)
-      (Some (entered_key i g.vector (Some base), entered i slots g (number_value d rsp) i.floors))
-      (one_entry (Some base) (number_value d rsp) i.floors (λ key. number_formed d key rsp))
+        let n : ℕ = frame_size g.vector in
+        let rsp : ℕ = below_address base n in
+        some_if (IsEntry d F)
+        (may_touch d i.map g.vector (stack_taken g.ist i.kernel) && may_push d i.map i.floors base n)
+        (Some (entered_key i g.vector (Some base), entered i slots g (number_value d rsp) i.floors))
+        (one_entry (Some base) (number_value d rsp) i.floors (λ key. number_formed d key rsp))
 
     at_entry : (chosen : Option ℕ) → IfSome (delivered_at d i slots g chosen) (IsEntry d F)
     at_entry (Some n) = from_entry (aligned n)
@@ -335,11 +335,11 @@ module _ (d : Description) (F : Type 0) (i : Interrupted) (slots : List AbsValue
 
     below_entry : (clear : Bool) → IfSome (delivered_below d i slots g clear) (IsEntry d F)
     below_entry clear =
-      let rsp : AbsValue = own_frame i.stack (frame_size g.vector) in
-      let floors : Floors = with_floor i.floors i.stack floor.Base in
-      some_if (IsEntry d F) (may_touch d i.map g.vector None && (clear && is_stack_present d i.stack i.map))
-      (Some (entered_key i g.vector None, entered i slots g rsp floors))
-      (one_entry None rsp floors (λ key. record { symbol = refl; somewhere = one_place (place_bit i.stack) }))
+        let rsp : AbsValue = own_frame i.stack (frame_size g.vector) in
+        let floors : Floors = with_floor i.floors i.stack floor.Base in
+        some_if (IsEntry d F) (may_touch d i.map g.vector None && (clear && is_stack_present d i.stack i.map))
+        (Some (entered_key i g.vector None, entered i slots g rsp floors))
+        (one_entry None rsp floors (λ key. record { symbol = refl; somewhere = one_place (place_bit i.stack) }))
 
 gate_entry : (d : Description) (F : Type 0) (f : Gate → Option (Key × AbsState)) (g : Option Gate)
     → ((g : Gate) → IfSome (f g) (IsEntry d F))
@@ -363,11 +363,11 @@ delivery_entry d key site s insn v valid stack =
     some_if (IsEntry d F) (is_exact (moment_of d key s 0) site.inside && (not site.inside || is_some h))
     (by_gate (delivered d key site s h) (gate_of d.gates v))
     (gate_entry d F (delivered d key site s h) (gate_of d.gates v) (λ g.
-      let chosen : Option ℕ = chosen_rsp s.slots at (stack_taken g.ist true) in
-      either_if (IsEntry d F) ((g.ist == 0) && (site.inside || is_relative at))
-      (delivered_below d i s.slots g clear) (delivered_at d i s.slots g chosen)
-      (below_entry d F i s.slots g keyed formed some clear)
-      (at_entry d F i s.slots g keyed formed some chosen)))
+    let chosen : Option ℕ = chosen_rsp s.slots at (stack_taken g.ist true) in
+    either_if (IsEntry d F) ((g.ist == 0) && (site.inside || is_relative at))
+    (delivered_below d i s.slots g clear) (delivered_at d i s.slots g chosen)
+    (below_entry d F i s.slots g keyed formed some clear)
+    (at_entry d F i s.slots g keyed formed some chosen)))
 
 user_keyed : (d : Description) (u : UserState) → IsContextKeyed d (interrupted_user d u)
 user_keyed d u = record { stack = tt; user = λ e. refl }

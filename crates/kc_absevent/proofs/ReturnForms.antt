@@ -1,11 +1,10 @@
 -- What is known after an event's return is well-formed where it was before: a slot stays or becomes the top.
-use Rattle.std.proofs.Common.{ℕ, List, get_or, All}
+use Rattle.std.proofs.Common.{get_or}
 use Rattle.kc_regions.specs.Description.{Description}
-use Rattle.kc_value.specs.AbsValue.{AbsValue}
 use Rattle.kc_value.specs.Value.{value_top}
 use Rattle.kc_state.specs.AbsReturn.{loses, kept, returned}
 use Rattle.kc_state.specs.Location.{location_of}
-use Rattle.kc_state.specs.WellFormed.{IsWellFormed, IsStateWellFormed}
+use Rattle.kc_state.specs.WellFormed.{IsStateWellFormed}
 use Rattle.kc_state.specs.declared.key.Key.{Key}
 use Rattle.kc_state.specs.declared.state.AbsState.{AbsState}
 use Rattle.kc_state.specs.declared.summary.Summary.{Summary}

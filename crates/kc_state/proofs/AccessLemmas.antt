@@ -1,5 +1,5 @@
 -- One step of the walks over bytes: what is asked of n bytes is asked of the first and of the n - 1 after it.
-use Rattle.std.proofs.Common.{◌≡◌, ℕ, zero, suc, ◌+◌, ◌-◌, ◌<◌, Bool, true, ◌&&◌, ap, arith}
+use Rattle.std.proofs.Common.{◌≡◌, ℕ, zero, suc, ◌+◌, ◌-◌, ◌<◌, true, ◌&&◌, ap, arith}
 use Rattle.kc_bits.specs.Bits.{word}
 use Rattle.kc_frames.specs.declared.floors.Floors.{Floors}
 use Rattle.kc_regions.specs.Description.{Description}

@@ -1,12 +1,11 @@
 -- A move by 2^63, which is no signed number of 64 bits, and the sign of a number turned round.
-use Rattle.std.proofs.Common.{◌≡◌, ◌≢◌, ℕ, ◌-◌, ◌^◌, ◌<◌, ◌≤◌, Bool, true, cond, ℤ, pos, negsuc, ◌+ℤ◌, ◌-ℤ◌, neg_ℤ, refl, sym, ap, ◌∙◌, rules, arith}
+use Rattle.std.proofs.Common.{◌≡◌, ◌≢◌, ◌^◌, ◌<◌, Bool, true, cond, ℤ, pos, negsuc, ◌+ℤ◌, ◌-ℤ◌, neg_ℤ, ap, ◌∙◌, rules, arith}
 use Rattle.std.proofs.lemmas.Int.{ints, to_z-of_z}
 use Rattle.std.specs.Prelude.{FitsSigned}
 use mir.Val.{of_z, to_z}
 use mir.Syntax.{w64}
 use Rattle.kc_regions.specs.Description.{Description}
 use Rattle.kc_value.specs.AbsValue.{AbsValue}
-use Rattle.kc_value.specs.declared.symbol.Sym.{Sym}
 use Rattle.kc_value.specs.declared.symbol.Sym.TheVariants.{Base}
 use Rattle.kc_state.specs.Shift.{is_offset, shifted_places, based, moved_bits, shifted_from, shifted}
 use Rattle.kc_state.specs.declared.key.Key.{Key}

@@ -1,5 +1,5 @@
 -- A stack that holds an address has a number below 16, since a description has at most 16 stacks.
-use Rattle.std.proofs.Common.{◌≡◌, ℕ, ◌<◌, ◌≤◌, Option, Some, None, nat_lt, length, inl, inr, refl, arith}
+use Rattle.std.proofs.Common.{◌≡◌, ℕ, ◌<◌, Option, Some, None, nat_lt, length, inl, inr, refl, arith}
 use Rattle.std.specs.List.{position_or_len}
 use Rattle.std.proofs.lemmas.Bool.{ltb-true}
 use Rattle.kc_regions.specs.Description.{Description}

@@ -1,7 +1,7 @@
 -- What is known after the delivery of a vector, in the order of the delivery itself: SDM vol. 3A, "64-Bit Mode Stack
 -- Frame", "Stack Switching in IA-32e Mode", "Interrupt Stack Table", "Flag Usage By Exception- or Interrupt-Handler
 -- Procedure", and vol. 2B, "SYSCALL". Floors, keys and which frame is permitted are this project's own.
-use Rattle.std.specs.Prelude.{ℕ, ◌+◌, ◌-◌, ◌*◌, ◌/◌, ◌%◌, ◌^◌, Bool, true, false, cond, not, ◌&&◌, ◌||◌, ◌==◌, nat_le, if◌then◌else◌, List, [], ◌∷◌, map, replicate, get_or, slice_set, Option, Some, None, is_some, option_map, bit_or, ℤ, pos, neg_ℤ}
+use Rattle.std.specs.Prelude.{ℕ, ◌+◌, ◌-◌, ◌*◌, ◌%◌, ◌^◌, Bool, true, false, cond, not, ◌&&◌, ◌||◌, ◌==◌, nat_le, if◌then◌else◌, List, [], ◌∷◌, map, replicate, get_or, slice_set, Option, Some, None, is_some, bit_or, pos, neg_ℤ}
 use Rattle.std.specs.Int.{bit_at}
 use Rattle.kc_bits.specs.KnownBits.{KnownBits}
 use Rattle.kc_bits.specs.Bits.{word, flipped, all_of, bits_and, bits_joined, bits_prefix, bits_single, nothing_known}
@@ -21,7 +21,6 @@ use Rattle.kc_regions.specs.declared.touch.Touch.TheVariants.{Read, Write}
 use Rattle.kc_space.specs.declared.latches.Latches.{Latches}
 use Rattle.kc_space.specs.declared.map.MapState.{MapState}
 use Rattle.kc_space.specs.declared.map.MapState.TheVariants as map_state
-use Rattle.kc_space.specs.declared.tri.Tri.{Tri}
 use Rattle.kc_space.specs.declared.tri.Tri.TheVariants.{No, Yes}
 use Rattle.kc_space.specs.declared.who.Who.TheVariants as who
 use Rattle.kc_value.specs.AbsValue.{AbsValue}
@@ -35,7 +34,7 @@ use Rattle.kc_state.specs.Access.{may_bytes, is_floor_from, is_stack_present}
 use Rattle.kc_state.specs.Calls.{edited_rip, edited_flags, edited_rsp}
 use Rattle.kc_state.specs.Conditions.{clear_at, is_exact, stack_region}
 use Rattle.kc_state.specs.Location.{location_of}
-use Rattle.kc_state.specs.Operand.{AbsMoment, number_value}
+use Rattle.kc_state.specs.Operand.{number_value}
 use Rattle.kc_state.specs.Places.{below_address, home_of, is_interrupted_rsp, value_stack}
 use Rattle.kc_state.specs.declared.interrupted.Interrupted.{Interrupted}
 use Rattle.kc_state.specs.declared.key.Key.{Key}

@@ -1,8 +1,8 @@
 -- What is known after each instruction, an equation an instruction in the order of the processor's table: the state,
 -- one store, and where the program goes on. This project's own. Where a condition on the instruction fails, nothing is
 -- said of what stands here.
-use Rattle.std.specs.Prelude.{ℕ, ◌+◌, ◌-◌, ◌*◌, ◌/◌, ◌%◌, ◌^◌, Bool, true, false, cond, not, ◌&&◌, ◌||◌, ◌==◌, if◌then◌else◌, List, Option, Some, None, ℤ, pos, neg_ℤ, bit_and, bit_or, FitsSigned}
-use Rattle.std.specs.Int.{w64, bit_at, cast_signed}
+use Rattle.std.specs.Prelude.{ℕ, ◌+◌, ◌-◌, ◌*◌, ◌/◌, ◌%◌, ◌^◌, Bool, true, false, ◌&&◌, ◌==◌, if◌then◌else◌, List, Option, Some, None, ℤ, pos, neg_ℤ, bit_and, bit_or}
+use Rattle.std.specs.Int.{w64, cast_signed}
 use Rattle.kc_bits.specs.KnownBits.{KnownBits}
 use Rattle.kc_bits.specs.Bits.{flipped, all_of, bits_and, bits_or, bits_cut, bits_single, nothing_known}
 use Rattle.kc_frames.specs.Slots.{redone}
@@ -12,7 +12,6 @@ use Rattle.kc_insn.specs.declared.insn.BitOp.{BitOp}
 use Rattle.kc_insn.specs.declared.insn.BitOp.TheVariants as bits
 use Rattle.kc_insn.specs.declared.insn.Insn.{Insn}
 use Rattle.kc_insn.specs.declared.insn.Insn.TheVariants.{Nop, Endbr64, Lfence, Ud2, Cld, Clac, Stac, Cli, Sti, Swapgs, Sysretq, Iretq, Rdmsr, Wrmsr, Pushfq, Popfq, Ret, ReadCr3, WriteCr3, ReadGs, WriteGs, Mov, Lea, Xchg, Push, Pop, Alu, Test, Bit, Jcc, Jmp, Call}
-use Rattle.kc_insn.specs.declared.insn.Mem.{Mem}
 use Rattle.kc_insn.specs.declared.insn.Place.{Place}
 use Rattle.kc_insn.specs.declared.insn.Place.TheVariants as place
 use Rattle.kc_insn.specs.declared.insn.Reg.{Reg}
@@ -29,14 +28,14 @@ use Rattle.kc_space.specs.declared.who.Who.TheVariants as who
 use Rattle.kc_value.specs.AbsValue.{AbsValue}
 use Rattle.kc_value.specs.Value.{value_top, all_places}
 use Rattle.kc_value.specs.declared.symbol.Sym.{Sym}
-use Rattle.kc_value.specs.declared.symbol.Sym.TheVariants.{Plain, Base, Entry, UserGs}
+use Rattle.kc_value.specs.declared.symbol.Sym.TheVariants.{Base, UserGs}
 use Rattle.kc_words.specs.Flags.{bits_of}
 use Rattle.kc_words.specs.declared.width.Width.{Width}
 use Rattle.kc_words.specs.declared.width.Width.TheVariants.{Quad}
-use Rattle.kc_state.specs.Flags.{marked, set_flag, clear_flag, alu_bits, alu_flags, bit_flags, holds, known_flag, tri_not}
+use Rattle.kc_state.specs.Flags.{set_flag, clear_flag, alu_bits, alu_flags, bit_flags, holds, known_flag, tri_not}
 use Rattle.kc_state.specs.Location.{location_of}
 use Rattle.kc_state.specs.Memory.{stored}
-use Rattle.kc_state.specs.Operand.{AbsMoment, register, with_register, number_value, bits_value, at_width, known_at, effective, linear, load_by, operand, destination}
+use Rattle.kc_state.specs.Operand.{AbsMoment, register, with_register, number_value, bits_value, at_width, effective, linear, load_by, operand, destination}
 use Rattle.kc_state.specs.Shift.{shifted}
 use Rattle.kc_state.specs.declared.key.Key.{Key}
 use Rattle.kc_state.specs.declared.location.Location.{Location}

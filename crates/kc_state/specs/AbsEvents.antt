@@ -2,7 +2,7 @@
 -- 3A, "Handling Multiple NMIs", and vol. 3B, "Machine-Check Architecture"), of IF and of the gap after an STI (SDM vol.
 -- 3A, "Enabling and Disabling Interrupts"). Which exceptions kernel code raises, and what a handler lists, is this
 -- project's own.
-use Rattle.std.specs.Prelude.{ℕ, suc, zero, ◌+◌, Bool, true, false, not, ◌&&◌, ◌||◌, ◌==◌, nat_le, nat_lt, ◌<◌, length, if◌then◌else◌, Option, Some, None, IfSome}
+use Rattle.std.specs.Prelude.{ℕ, suc, zero, ◌+◌, Bool, true, false, not, ◌&&◌, ◌||◌, ◌==◌, nat_le, ◌<◌, length, if◌then◌else◌, Option, Some, None, IfSome}
 use Rattle.std.specs.Int.{bit_at}
 use Rattle.std.specs.List.{list_any}
 use Rattle.kc_bits.specs.KnownBits.{KnownBits}

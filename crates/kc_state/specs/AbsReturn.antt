@@ -1,5 +1,5 @@
 -- What is known after the return of an event, by the summary of the context that ran: this project's own.
-use Rattle.std.specs.Prelude.{ℕ, suc, zero, ◌+◌, Bool, true, false, cond, not, ◌&&◌, ◌||◌, ◌==◌, nat_le, nat_lt, if◌then◌else◌, List, get_or, Option, Some, None, ℤ, int_le}
+use Rattle.std.specs.Prelude.{ℕ, suc, zero, ◌+◌, Bool, false, cond, not, ◌&&◌, ◌||◌, ◌==◌, nat_le, nat_lt, if◌then◌else◌, get_or, Option, Some, None, ℤ, int_le}
 use Rattle.std.specs.Int.{bit_at}
 use Rattle.kc_bits.specs.Bits.{word}
 use Rattle.kc_frames.specs.ClobberSets.{ClobberSets}

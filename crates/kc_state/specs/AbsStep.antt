@@ -1,13 +1,13 @@
 -- The abstract step of an instruction, this project's own: the least condition that fails, or where the program goes on
 -- and what is known there.
-use Rattle.std.specs.Prelude.{ℕ, Bool, false, not, Option, Some, None, Result, Ok, Err, slice_get}
+use Rattle.std.specs.Prelude.{ℕ, false, not, Option, Some, None, Result, Ok, Err, slice_get}
 use Rattle.kc_insn.specs.declared.insn.Insn.{Insn}
 use Rattle.kc_regions.specs.Description.{Description}
 use Rattle.kc_regions.specs.declared.entry.Handler.{Handler}
 use Rattle.kc_rules.specs.Rules.{refuse, ◌>>=◌}
 use Rattle.kc_state.specs.AbsEffect.{AbsChange, abs_row, applied, moment_of}
 use Rattle.kc_state.specs.Calls.{called}
-use Rattle.kc_state.specs.Conditions.{AbsAccess, accesses_of, is_exact, uses_kernel_gs, is_permitted, is_clear, loads_known_cr3, calls_well, is_allowed, restores}
+use Rattle.kc_state.specs.Conditions.{accesses_of, is_exact, uses_kernel_gs, is_permitted, is_clear, loads_known_cr3, calls_well, is_allowed, restores}
 use Rattle.kc_state.specs.Operand.{AbsMoment}
 use Rattle.kc_state.specs.declared.condition.Condition.{Condition}
 use Rattle.kc_state.specs.declared.key.Key.{Key}

@@ -1,5 +1,5 @@
 -- Which bytes may be accessed, and which hold no live byte, this project's own.
-use Rattle.std.specs.Prelude.{ℕ, zero, suc, ◌+◌, ◌-◌, ◌^◌, max, Bool, true, false, cond, ◌&&◌, ◌||◌, ◌==◌, not, nat_le, Option, Some, None, get_or, slice_get, ℤ, pos, neg_ℤ, int_le}
+use Rattle.std.specs.Prelude.{ℕ, zero, suc, ◌+◌, max, Bool, true, false, ◌&&◌, ◌==◌, not, nat_le, Option, Some, None, get_or, pos, neg_ℤ, int_le}
 use Rattle.kc_bits.specs.Bits.{word}
 use Rattle.kc_frames.specs.Floors.{floor_number, floor_top, none_live}
 use Rattle.kc_frames.specs.declared.floor.Floor.{Floor}

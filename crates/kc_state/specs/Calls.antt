@@ -1,5 +1,5 @@
 -- What a handler's call leaves of the state at its body, and what is known after its end, this project's own.
-use Rattle.std.specs.Prelude.{◌≡◌, ℕ, ◌+◌, ◌-◌, ◌^◌, Bool, true, false, cond, ◌||◌, ◌==◌, if◌then◌else◌, List, [], ◌∷◌, map, get_or, Option, Some, None, slice_get, bit_and, bit_or, ℤ, pos, ◌+ℤ◌, neg_ℤ}
+use Rattle.std.specs.Prelude.{ℕ, ◌+◌, ◌-◌, ◌^◌, Bool, false, cond, ◌||◌, ◌==◌, if◌then◌else◌, List, [], ◌∷◌, map, get_or, Option, Some, None, slice_get, bit_and, bit_or, pos}
 use Rattle.std.specs.Int.{w64, int_wrapping_add, int_wrapping_sub}
 use Rattle.kc_bits.specs.KnownBits.{KnownBits}
 use Rattle.kc_bits.specs.Bits.{flipped, nothing_known, word}

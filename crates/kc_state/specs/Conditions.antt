@@ -1,5 +1,5 @@
 -- The conditions on an instruction and the state before it, C4 and C6 to C12, each a test, this project's own.
-use Rattle.std.specs.Prelude.{ℕ, ◌+◌, ◌-◌, ◌*◌, ◌/◌, ◌%◌, ◌^◌, Bool, true, false, cond, not, ◌&&◌, ◌||◌, ◌==◌, nat_le, if◌then◌else◌, List, [], ◌∷◌, ◌++◌, get_or, Option, Some, None, is_some, bit_and, ℤ, pos, ◌+ℤ◌, neg_ℤ, int_le}
+use Rattle.std.specs.Prelude.{ℕ, ◌+◌, ◌-◌, ◌*◌, ◌/◌, ◌%◌, ◌^◌, Bool, true, false, cond, not, ◌&&◌, ◌||◌, ◌==◌, nat_le, if◌then◌else◌, List, [], ◌∷◌, ◌++◌, Option, Some, None, is_some, bit_and, pos, neg_ℤ, int_le}
 use Rattle.std.specs.List.{list_all}
 use Rattle.kc_bits.specs.KnownBits.{KnownBits}
 use Rattle.kc_bits.specs.Bits.{word, bits_single}
@@ -16,12 +16,11 @@ use Rattle.kc_regions.specs.Region.{stack_of, stack_at}
 use Rattle.kc_regions.specs.declared.entry.Handler.{Handler}
 use Rattle.kc_regions.specs.declared.region.Region.{Region}
 use Rattle.kc_regions.specs.declared.touch.Touch.{Touch}
-use Rattle.kc_regions.specs.declared.touch.Touch.TheVariants.{Fetch, Read, Write}
+use Rattle.kc_regions.specs.declared.touch.Touch.TheVariants.{Read, Write}
 use Rattle.kc_space.specs.Spaces.{is_same_who, is_same_map}
 use Rattle.kc_space.specs.declared.map.MapState.TheVariants as map
 use Rattle.kc_space.specs.declared.who.Who.TheVariants as who
 use Rattle.kc_value.specs.AbsValue.{AbsValue}
-use Rattle.kc_value.specs.Value.{value_top}
 use Rattle.kc_value.specs.declared.symbol.Sym.{Sym}
 use Rattle.kc_value.specs.declared.symbol.Sym.TheVariants.{Entry, UserGs}
 use Rattle.kc_words.specs.Flags.{bits_of}

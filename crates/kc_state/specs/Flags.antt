@@ -1,9 +1,9 @@
 -- What is known of RFLAGS after arithmetic, this project's own: exact where both operands are known, and else by simple
 -- rules.
-use Rattle.std.specs.Prelude.{◌≡◌, ℕ, ◌+◌, ◌-◌, ◌*◌, ◌/◌, ◌%◌, ◌^◌, Bool, true, false, cond, not, ◌&&◌, ◌||◌, ◌==◌, if◌then◌else◌, Option, Some, None, bit_and, bit_or, bit_xor}
+use Rattle.std.specs.Prelude.{ℕ, ◌-◌, ◌/◌, ◌%◌, Bool, true, false, cond, not, ◌&&◌, ◌==◌, if◌then◌else◌, Option, Some, None, bit_and, bit_or, bit_xor}
 use Rattle.std.specs.Int.{bit_at}
 use Rattle.kc_bits.specs.KnownBits.{KnownBits}
-use Rattle.kc_bits.specs.Bits.{flipped, bits_and, bits_or, bits_xor, bits_add, bits_sub, bits_cut, bits_single, all_of}
+use Rattle.kc_bits.specs.Bits.{flipped, bits_and, bits_or, bits_xor, bits_add, bits_sub, bits_cut, bits_single}
 use Rattle.kc_insn.specs.declared.insn.AluOp.{AluOp}
 use Rattle.kc_insn.specs.declared.insn.AluOp.TheVariants as alu
 use Rattle.kc_space.specs.declared.tri.Tri.{Tri}

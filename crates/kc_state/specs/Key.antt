@@ -1,5 +1,5 @@
 -- Keys of contexts, this project's own: their numbers in a certificate, by which they are ordered, and their rules.
-use Rattle.std.specs.Prelude.{◌≡◌, ℕ, ◌<◌, true, false, cond, List, [], ◌∷◌, Option, None, is_some, unwrap_or, IfSome}
+use Rattle.std.specs.Prelude.{◌≡◌, ℕ, ◌<◌, true, false, cond, List, [], ◌∷◌, None, is_some, unwrap_or, IfSome}
 use Rattle.kc_space.specs.Spaces.{gs_number, map_number}
 use Rattle.kc_state.specs.declared.key.Key.{Key}
 

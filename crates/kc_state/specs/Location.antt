@@ -1,5 +1,5 @@
 -- Where an abstract value points, this project's own: a number, or an offset from the newest activation's base.
-use Rattle.std.specs.Prelude.{ℕ, ◌+◌, Bool, true, false, Option, Some, None, is_some, ℤ, option_map, cond}
+use Rattle.std.specs.Prelude.{ℕ, ◌+◌, Option, Some, None, ℤ, option_map}
 use Rattle.std.specs.Int.{w64, cast_unsigned}
 use Rattle.kc_bits.specs.Bits.{bits_single, word}
 use Rattle.kc_value.specs.AbsValue.{AbsValue}

@@ -1,5 +1,5 @@
 -- Abstract operands and their addresses, this project's own: what is known of those of the processor.
-use Rattle.std.specs.Prelude.{ℕ, ◌+◌, ◌-◌, ◌*◌, ◌/◌, ◌%◌, ◌^◌, Bool, cond, ◌==◌, Option, Some, None, List, get_or, slice_set}
+use Rattle.std.specs.Prelude.{ℕ, ◌+◌, ◌-◌, ◌*◌, ◌/◌, cond, Option, Some, None, List, get_or, slice_set}
 use Rattle.std.specs.Int.{w64, cast_unsigned}
 use Rattle.kc_bits.specs.KnownBits.{KnownBits}
 use Rattle.kc_bits.specs.Bits.{word, all_of, bits_add, bits_cut, bits_single}
@@ -7,7 +7,6 @@ use Rattle.kc_insn.specs.declared.insn.Base.{Base}
 use Rattle.kc_insn.specs.declared.insn.Base.TheVariants as base
 use Rattle.kc_insn.specs.declared.insn.Mem.{Mem}
 use Rattle.kc_insn.specs.declared.insn.Place.{Place}
-use Rattle.kc_insn.specs.declared.insn.Place.TheVariants as place
 use Rattle.kc_insn.specs.declared.insn.Reg.{Reg}
 use Rattle.kc_insn.specs.declared.insn.Source.{Source}
 use Rattle.kc_insn.specs.declared.insn.Source.TheVariants as source
@@ -17,7 +16,7 @@ use Rattle.kc_regions.specs.Region.{stack_of}
 use Rattle.kc_space.specs.declared.who.Who.{Who}
 use Rattle.kc_space.specs.declared.who.Who.TheVariants as who
 use Rattle.kc_value.specs.AbsValue.{AbsValue}
-use Rattle.kc_value.specs.Made.{constant, derived, low}
+use Rattle.kc_value.specs.Made.{constant, derived}
 use Rattle.kc_value.specs.Value.{value_top}
 use Rattle.kc_words.specs.Flags.{bits_of, cut}
 use Rattle.kc_words.specs.declared.width.Width.{Width}

@@ -1,5 +1,5 @@
 -- Where abstract values point and where the tracked words lie, this project's own.
-use Rattle.std.specs.Prelude.{◌≡◌, ℕ, ◌+◌, ◌-◌, ◌*◌, ◌/◌, ◌%◌, ◌^◌, Bool, true, false, cond, ◌==◌, nat_lt, List, Option, Some, None, option_map, slice_get, ℤ, pos, neg_ℤ}
+use Rattle.std.specs.Prelude.{ℕ, ◌+◌, ◌-◌, ◌*◌, ◌/◌, ◌%◌, ◌^◌, Bool, true, false, cond, ◌==◌, nat_lt, Option, Some, None, option_map, slice_get, pos, neg_ℤ}
 use Rattle.kc_bits.specs.Bits.{word}
 use Rattle.kc_regions.specs.Description.{Description}
 use Rattle.kc_regions.specs.Lookup.{tss_word}

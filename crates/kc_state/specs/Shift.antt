@@ -1,7 +1,7 @@
 -- A value plus a number that is known, this project's own.
-use Rattle.std.specs.Prelude.{ℕ, ◌+◌, ◌-◌, ◌^◌, Bool, true, false, cond, ◌&&◌, ◌==◌, Option, Some, None, ℤ, pos, ◌+ℤ◌, neg_ℤ, int_le}
+use Rattle.std.specs.Prelude.{ℕ, ◌-◌, ◌^◌, Bool, true, false, cond, ◌&&◌, ◌==◌, Option, Some, None, ℤ, pos, ◌+ℤ◌, neg_ℤ, int_le}
 use Rattle.std.specs.Int.{w64, cast_unsigned}
-use Rattle.kc_bits.specs.Bits.{all_of, bits_add, nothing_known, word}
+use Rattle.kc_bits.specs.Bits.{all_of, bits_add, nothing_known}
 use Rattle.kc_regions.specs.Description.{Description}
 use Rattle.kc_regions.specs.Region.{stack_of}
 use Rattle.kc_value.specs.AbsValue.{AbsValue}

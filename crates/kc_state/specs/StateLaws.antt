@@ -1,14 +1,14 @@
 -- The laws of abstract states: the `Domain` of `AbsState` cites these.
-use Rattle.std.proofs.Common.{◌≡◌, ℕ, ◌+◌, ◌-◌, ◌*◌, ◌^◌, ◌≤◌, ◌<◌, List, [], ◌∷◌, length, map, replicate, All, sum_by, bit_or, refl, sym, ap, ◌∙◌, subst, arith}
+use Rattle.std.proofs.Common.{◌≡◌, ℕ, ◌+◌, ◌-◌, ◌*◌, ◌^◌, ◌≤◌, ◌<◌, List, [], ◌∷◌, length, map, replicate, sum_by, bit_or, refl, sym, ap, ◌∙◌, subst, arith}
 use Rattle.std.proofs.lemmas.Nat.{or_disjoint, or_lt}
 use Rattle.kc_lattice.specs.Laws.{Laws, AllAlike}
 use Rattle.kc_lattice.specs.PairLaws.{both_laws}
 use Rattle.kc_lattice.specs.declared.both.Both.{Both}
 use Rattle.kc_shapes.specs.RowLaws.{counted_laws, rows_rank-le, all_alike_rows}
 use Rattle.kc_shapes.specs.ShapeLaws.{reshaped_laws}
-use Rattle.kc_frames.specs.Floors.{floor_top, floors_rank}
+use Rattle.kc_frames.specs.Floors.{floor_top}
 use Rattle.kc_frames.specs.FloorsLaws.{floors_laws, floors_rank-le}
-use Rattle.kc_frames.specs.Slots.{slot_count, every_slot}
+use Rattle.kc_frames.specs.Slots.{every_slot}
 use Rattle.kc_frames.specs.SlotsLaws.{slots_laws, slots_rank-le}
 use Rattle.kc_frames.specs.declared.floors.Floors.{Floors}
 use Rattle.kc_space.specs.LatchesLaws.{latches_laws, latches_rank-le}

@@ -1,5 +1,5 @@
 -- The laws of summaries: the `Domain` of `Summary` cites these.
-use Rattle.std.proofs.Common.{ℕ, ◌+◌, ◌≤◌, ◌^◌, refl, arith}
+use Rattle.std.proofs.Common.{◌+◌, ◌≤◌, ◌^◌, refl, arith}
 use Rattle.kc_lattice.specs.Laws.{Laws, AllAlike}
 use Rattle.kc_lattice.specs.PairLaws.{both_laws}
 use Rattle.kc_lattice.specs.declared.both.Both.{Both}

@@ -1,5 +1,5 @@
 -- The laws of user states: the `Domain` of `UserState` cites these.
-use Rattle.std.proofs.Common.{ℕ, ◌+◌, ◌*◌, ◌^◌, ◌≤◌, List, refl, sym, ◌∙◌, arith}
+use Rattle.std.proofs.Common.{◌+◌, ◌*◌, ◌^◌, ◌≤◌, List, refl, sym, ◌∙◌, arith}
 use Rattle.kc_lattice.specs.Laws.{Laws, AllAlike}
 use Rattle.kc_lattice.specs.PairLaws.{both_laws}
 use Rattle.kc_lattice.specs.declared.both.Both.{Both}

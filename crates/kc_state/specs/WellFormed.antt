@@ -1,5 +1,5 @@
 -- Well-formed values of a context, this project's own: what every table keeps of its states.
-use Rattle.std.specs.Prelude.{◌≡◌, ◌≢◌, ℕ, Option, Some, None, All, IfSome}
+use Rattle.std.specs.Prelude.{◌≡◌, ◌≢◌, All, IfSome}
 use Rattle.kc_bits.specs.Bits.{bits_single, nothing_known}
 use Rattle.std.specs.Int.{bit_at}
 use Rattle.kc_regions.specs.Description.{Description}

@@ -1,5 +1,5 @@
 -- What the abstract step of an instruction answers, this project's own.
-use Rattle.std.specs.Prelude.{◌≡◌, ℕ, ◌<◌, length, Option, IfSome, Result, Ok, Err}
+use Rattle.std.specs.Prelude.{◌≡◌, Result, Ok, Err}
 use Rattle.kc_state.specs.declared.condition.Condition.{Condition}
 use Rattle.kc_state.specs.declared.scratch.Scratch.{Scratch}
 use Rattle.kc_state.specs.declared.state.AbsState.{AbsState}

@@ -1,6 +1,6 @@
 //! What is known at the body of a handler after its call. This project's own.
 
-ghost use Rattle.std.specs.Prelude.{◌≡◌};
+ghost use Rattle.std.specs.Prelude.{◌≡◌, Some};
 ghost use Rattle.kc_frames.specs.Slots.{redone};
 ghost use Rattle.kc_regions.specs.declared.entry.Handler.{Handler as TheHandler};
 ghost use Rattle.kc_state.specs.Calls.{moved_down, used, called_at, called};

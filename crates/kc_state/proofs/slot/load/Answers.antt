@@ -1,11 +1,10 @@
-use Rattle.std.proofs.Common.{◌≡◌, ℕ, ◌+◌, ◌*◌, ◌/◌, ◌<◌, ◌≤◌, Option, Some, None, length, get_or, sym, ap, ◌∙◌, rules, arith}
+use Rattle.std.proofs.Common.{◌≡◌, ℕ, ◌*◌, ◌/◌, ◌<◌, ◌≤◌, Some, None, length, get_or, sym, ap, ◌∙◌, rules, arith}
 use Rattle.kc_bits.specs.Bits.{bits_cut, nothing_known}
 use Rattle.kc_regions.specs.Region.{stack_of}
 use Rattle.kc_value.specs.Made.{derived}
 use Rattle.kc_value.specs.Value.{value_top}
 use Rattle.kc_words.specs.Flags.{bits_of}
-use Rattle.kc_frames.specs.Slots.{slot_count}
-use Rattle.kc_state.specs.Memory.{offset_in, part_of, loaded_or, loaded_from}
+use Rattle.kc_state.specs.Memory.{offset_in, part_of, loaded_or}
 use Rattle.kc_state.specs.Places.{word_of}
 use Rattle.kc_state.proofs.SlotLemmas.{whole_bytes, loaded_step, loaded_end}
 use Rattle.kc_state.proofs.slot.load.Goals as goal

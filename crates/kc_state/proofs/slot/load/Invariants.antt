@@ -1,4 +1,4 @@
-use Rattle.std.proofs.Common.{◌≡◌, ◌/◌, ◌≤◌, drop}
+use Rattle.std.proofs.Common.{◌≡◌, ◌/◌, drop}
 use Rattle.kc_words.specs.Flags.{bits_of}
 use Rattle.kc_state.specs.Memory.{loaded_from, loaded}
 use Rattle.kc_state.proofs.slot.load.Given as goal
