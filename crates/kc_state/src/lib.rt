@@ -20,8 +20,6 @@ mod slot_words;
 mod state;
 mod succ;
 mod summary;
-#[cfg(test)]
-mod tests;
 mod top_of_stack;
 mod user;
 
