@@ -2,8 +2,8 @@
 //! were compared with an independent reader in another language, for which each layout constant, moved by up to eight,
 //! changes the answer of some case.
 
-use crate::table::{Case, case_of};
 use kc_image::{Image, read_image};
+use kc_tables::{Case, case_of};
 use std::alloc::Global;
 use std::test::Fail;
 
@@ -248,7 +248,7 @@ pub(crate) fn file_named(alloc: Global, name: &str) -> Result<Vec<u8>, Fail> {
         _ => RAW,
     };
     match case_of(text) {
-        Some(mut bytes) => bytes.bytes(alloc),
+        Some(mut bytes) => Ok(bytes.bytes(alloc)?),
         None => Ok(Vec::new(alloc)),
     }
 }

@@ -1,9 +1,9 @@
 //! The samples, compared with images and configurations that were made elsewhere.
 
-use crate::table::case_of;
 use kc_decode::decode;
 use kc_encode::encode;
 use kc_gen::{Line, Sample, assemble, sample};
+use kc_tables::case_of;
 use sha2::{Digest, Sha256};
 use std::test::Fail;
 

@@ -87,21 +87,3 @@ fn around<'a>(text: &'a [u8], old: &[u8]) -> Option<(&'a [u8], &'a [u8])> {
     }
     None
 }
-
-/// The path of a file that a line names, in the folder of the file that has the line.
-pub(crate) fn beside(alloc: Global, file: &str, name: &str) -> io::Result<String> {
-    let folder = match file.rsplit_once('/') {
-        Some((folder, _)) => folder,
-        None => ".",
-    };
-    Ok(format!(in alloc; "{folder}/{name}")?)
-}
-
-/// The line's text after this word and a blank.
-pub(crate) fn after<'a>(line: &'a str, word: &str) -> Option<&'a str> {
-    let (first, rest) = match line.split_once(' ') {
-        Some(parts) => parts,
-        None => (line, ""),
-    };
-    if first == word { Some(rest) } else { None }
-}

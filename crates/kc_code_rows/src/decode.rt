@@ -1,9 +1,9 @@
 //! The decoder on bytes, and the texts of what it answers: by GNU as and by an independent model.
 
-use crate::table::case_of;
 use crate::texts::has_text;
 use kc_decode::{DecodeFault, decode};
 use kc_insn::Insn;
+use kc_tables::case_of;
 use std::alloc::Global;
 use std::test::Fail;
 

@@ -1,28 +1,17 @@
-//! Cases of instructions, run under the description `s1.toml` beside their file.
+//! Compares the cases of a file, under the description `s1.toml` beside it.
 
-use crate::lines::beside;
-use kc_cases::ExecCase;
+use crate::exec_case::ExecCase;
 use kc_config::read_config;
 use kc_image::read_image;
 use kc_plain::NoMemory;
 use kc_regions::Config;
+use kc_tables::{Tally, beside};
 use std::alloc::AllocError;
 use std::fs::{self, Files};
 use std::io;
 
-/// How many cases agree, and how many don't.
-#[derive(Clone, Copy)]
-struct Count {
-    agree: u64,
-    differ: u64,
-}
-
 /// Runs each case of the file, prints each that differs, and last how many agree and how many don't.
-pub(crate) fn run<R: Print + Files + AllocGlobal>(
-    rt: &R,
-    file: &str,
-    text: &str,
-) -> io::Result<()> {
+pub fn run<R: Print + Files + AllocGlobal>(rt: &R, file: &str, text: &str) -> io::Result<()> {
     let alloc = rt.alloc();
     let image = fs::read(rt, beside(alloc, file, "s1.img")?.as_str())?;
     let description = fs::read(rt, beside(alloc, file, "s1.toml")?.as_str())?;
@@ -37,44 +26,36 @@ pub(crate) fn run<R: Print + Files + AllocGlobal>(
 
 fn run_all<R: Print + AllocGlobal>(rt: &R, config: &Config, text: &str) -> io::Result<()> {
     let alloc = rt.alloc();
-    let mut count = Count {
-        agree: 0,
-        differ: 0,
-    };
+    let mut tally = Tally::new();
     let mut case = kept(ExecCase::new(alloc))?;
     for line in text.lines() {
         if line.is_empty() {
-            count = finish(rt, config, &case, count)?;
+            finish(rt, config, &case, &mut tally)?;
             case = kept(ExecCase::new(alloc))?;
         } else {
             kept(case.read_line(alloc, line))?;
         }
     }
-    count = finish(rt, config, &case, count)?;
-    println!(rt; "agree {} differ {}", count.agree, count.differ)
+    finish(rt, config, &case, &mut tally)?;
+    println!(rt; "agree {} differ {}", tally.agree, tally.differ)
 }
 
+/// Compares what the case leaves; a block that says no end is no case.
 fn finish<R: Print + AllocGlobal>(
     rt: &R,
     config: &Config,
     case: &ExecCase,
-    count: Count,
-) -> io::Result<Count> {
+    tally: &mut Tally,
+) -> io::Result<()> {
     if !case.is_whole() {
-        return Ok(count);
+        return Ok(());
     }
     let found = kept(case.difference(rt.alloc(), config))?;
-    if found.is_empty() {
-        return Ok(Count {
-            agree: count.agree.saturating_add(1),
-            differ: count.differ,
-        });
+    if !found.is_empty() {
+        println!(rt; "{}: {found}", case.name)?;
     }
-    println!(rt; "{}: {found}", case.name)?;
-    Ok(Count {
-        agree: count.agree,
-        differ: count.differ.saturating_add(1),
-    })
+    tally.add(found.is_empty());
+    Ok(())
 }
 
 fn kept<T: Drop>(done: Result<T, NoMemory>) -> io::Result<T> {

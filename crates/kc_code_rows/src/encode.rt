@@ -1,11 +1,11 @@
 //! The encoder's chosen spellings, by an independent model. Each is also decoded: what it spells has
 //! the text of the line.
 
-use crate::table::case_of;
 use crate::texts::has_text;
 use kc_decode::decode;
 use kc_encode::{EncodeFault, encode, round_trip};
 use kc_insn::Insn;
+use kc_tables::case_of;
 use std::test::Fail;
 
 /// The bytes that are chosen, their address, and the text of the instruction.

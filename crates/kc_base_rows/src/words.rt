@@ -1,6 +1,6 @@
 //! Words, spans and status flags.
 
-use crate::table::case_of;
+use kc_tables::case_of;
 use kc_words::{Span, Width, add_flags, le64, logic_flags, sign32, sub_flags};
 use std::test::Fail;
 

@@ -3,7 +3,7 @@
 ghost use Rattle.std.specs.Prelude.{◌<◌, ◌^◌};
 
 use kc_bits::Bits;
-use kc_lattice::{Both, Domain, Meaning, Row, join_all};
+use kc_lattice::{Domain, Meaning};
 use kc_value::{Sym, Value, ValueEnv};
 use kc_words::Span;
 
@@ -121,30 +121,4 @@ fn made_values_know_their_bits_and_stacks(rt: HostRuntime) {
     let low = Value::derived(&open, None).low(None);
     assert_eq!(rt; low.bits, joined(&Bits::of(5), &Bits::of(7)));
     assert_eq!(rt; Value::constant(0x2_0000_0005, None).low(Some(3)), five);
-}
-
-#[test]
-fn pairs_rows_and_lists_join_part_by_part(rt: HostRuntime) -> Result<(), std::alloc::AllocError> {
-    let base = based(-8, 1);
-    let five = Value::constant(5, Some(3));
-    let mut pair = Both {
-        first: Bits::of(5),
-        second: five,
-    };
-    pair.join(&Both {
-        first: Bits::of(5),
-        second: base,
-    });
-    assert!(rt; pair.first.single() == Some(5) && five.leq(&pair.second) && !pair.is_top());
-    let mut row = Row {
-        items: vec![in rt.alloc(); base, five]?,
-    };
-    row.join(&Row {
-        items: vec![in rt.alloc(); base, based(0, 2)]?,
-    });
-    assert_eq!(rt; row.items[0], base);
-    let mut total = five;
-    join_all(&mut total, &row.items);
-    assert_eq!(rt; total, plain(Value::top().bits, 11));
-    Ok(())
 }
