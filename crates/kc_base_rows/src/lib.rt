@@ -1,6 +1,8 @@
-//! Tests of words and lists.
+//! Tests of words, files and sinks.
 #![tactic(auto)]
 
+#[cfg(test)]
+mod files;
 #[cfg(test)]
 mod plain;
 #[cfg(test)]

@@ -19,8 +19,6 @@ mod slot;
 mod state;
 mod succ;
 mod summary;
-#[cfg(test)]
-mod tests;
 mod top_of_stack;
 mod user;
 

@@ -1,7 +1,7 @@
 //! Tests of spaces and latches: order, joins, what they stand for, and their numbers in certificates.
 
-use crate::{GsPair, Latches, MapState, SpaceEnv, Tri, Who};
 use kc_lattice::{Domain, Meaning};
+use kc_space::{GsPair, Latches, MapState, SpaceEnv, Tri, Who};
 
 fn joined<D: Domain + Copy>(x: &D, y: &D) -> D
     requires { D.alike x.now y.now }

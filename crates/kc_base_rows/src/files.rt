@@ -2,7 +2,7 @@
 
 ghost use Rattle.std.specs.Prelude.{◌≡◌, IfOk};
 
-use crate::{
+use kc_io::{
     Failed, Files, HostFiles, HostSink, MemFiles, MemSink, ReadEnd, Sink, read_all, write_all,
 };
 use std::alloc::{AllocError, Global};

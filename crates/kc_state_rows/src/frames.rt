@@ -2,7 +2,7 @@
 
 ghost use Rattle.std.specs.Prelude.{cond, ◌==◌};
 
-use crate::{Change, Clobber, Floor, Floors, Slots};
+use kc_frames::{Change, Clobber, Floor, Floors, Slots};
 use kc_lattice::{Domain, Meaning};
 use kc_plain::NoMemory;
 

@@ -1,11 +1,11 @@
 //! Tests of keys, of where values point, and of states as domains.
 
-use crate::{AbsState, Condition, Key, Location, Scratch, Site, Summary, UserState, loc};
 use kc_bits::Bits;
 use kc_frames::{Clobber, Floor};
 use kc_lattice::Domain;
 use kc_plain::NoMemory;
 use kc_space::{GsPair, Latches, MapState, Tri, Who};
+use kc_state::{AbsState, Condition, Key, Location, Scratch, Site, Summary, UserState, loc};
 use kc_value::{Sym, Value};
 use std::cmp::Ordering;
 

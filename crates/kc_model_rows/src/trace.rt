@@ -1,6 +1,6 @@
 //! The reader on texts, with `~` for the byte 0A, and the first fault by line. From an independent model of the rules.
 
-use crate::{TraceFault, read_lines};
+use kc_trace::{TraceFault, read_lines};
 use std::alloc::Global;
 use std::io;
 use std::test::Fail;
@@ -181,7 +181,7 @@ fn line(alloc: Global, fault: TraceFault) -> io::Result<String> {
 }
 
 /// What the text gets.
-#[tactic(auto, using(crate::proofs::CutLemmas::few_lines))]
+#[tactic(auto, using(kc_trace::proofs::CutLemmas::few_lines))]
 fn answer(alloc: Global, text: &[u8]) -> io::Result<String> {
     if text.len() > 1000 {
         return Ok(String::from_str(alloc, "too long")?);
