@@ -2,11 +2,8 @@
 //! cases, prints each that differs, and last how many agree.
 #![tactic(auto)]
 
-mod config_cases;
 mod domain_cases;
-mod exec_cases;
 mod forms;
-mod lines;
 
 use std::{env, fs, io};
 
@@ -19,8 +16,8 @@ fn main(rt: HostRuntime) -> io::Result<()> {
     };
     let text = fs::read_to_string(&rt, path.as_str())?;
     match kind.as_str() {
-        "config" => config_cases::run(&rt, path.as_str(), text.as_str()),
-        "exec" => exec_cases::run(&rt, path.as_str(), text.as_str()),
+        "config" => kc_config_cases::run(&rt, path.as_str(), text.as_str()),
+        "exec" => kc_cases::run(&rt, path.as_str(), text.as_str()),
         "domains" => domain_cases::run(&rt, text.as_str()),
         _ => {
             println!(rt; "unknown kind {kind}")?;

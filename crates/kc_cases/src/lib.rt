@@ -3,8 +3,10 @@
 
 mod exec_case;
 mod lines;
+mod run;
 mod states;
 
 pub use exec_case::ExecCase;
 pub use lines::{hex_bytes, number};
+pub use run::run;
 pub use states::Processor;

@@ -1,5 +1,6 @@
 //! Numbers and bytes as files of cases write them.
 
+use hex::FromHexError;
 use kc_plain::NoMemory;
 use std::alloc::Global;
 
@@ -11,22 +12,11 @@ pub fn number(text: &str) -> Option<u64> {
     }
 }
 
-/// The bytes of a text of pairs of hexadecimal digits in lower case.
+/// The bytes of a text of pairs of hexadecimal digits; none of another text.
 pub fn hex_bytes(alloc: Global, text: &str) -> Result<Vec<u8>, NoMemory> {
-    let mut bytes = Vec::new(alloc);
-    let mut rest = text.as_bytes();
-    while let [high, low, tail @ ..] = rest {
-        rest = tail;
-        bytes.push(digit(*high) << 4 | digit(*low))?;
-    }
-    Ok(bytes)
-}
-
-/// The value of a hexadecimal digit in lower case.
-fn digit(byte: u8) -> u8 {
-    match byte {
-        b'0'..=b'9' => byte - b'0',
-        b'a'..=b'f' => byte - b'a' + 10,
-        _ => 0,
+    match hex::decode(alloc, text) {
+        Ok(bytes) => Ok(bytes),
+        Err(FromHexError::OutOfMemory) => Err(NoMemory),
+        Err(_) => Ok(Vec::new(alloc)),
     }
 }

@@ -20,8 +20,6 @@ mod stack;
 mod state;
 mod system;
 mod table;
-#[cfg(test)]
-mod tests;
 
 pub use access::{Access, Write};
 pub use admission::admitted;

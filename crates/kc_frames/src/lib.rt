@@ -6,8 +6,6 @@ mod floor;
 mod floors;
 mod redo;
 mod slots;
-#[cfg(test)]
-mod tests;
 
 pub use clobber::Clobber;
 pub use floor::Floor;

@@ -9,8 +9,6 @@ mod memory_files;
 mod memory_sink;
 mod read;
 mod sink;
-#[cfg(test)]
-mod tests;
 mod write;
 
 pub use files::{Failed, Files};

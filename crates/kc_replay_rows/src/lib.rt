@@ -5,7 +5,3 @@
 mod faults;
 #[cfg(test)]
 mod rows;
-#[cfg(test)]
-mod runner;
-#[cfg(test)]
-mod table;

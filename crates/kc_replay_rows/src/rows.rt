@@ -1,8 +1,8 @@
 //! Runs of `replay` over the samples. Statuses and lines are those of an independent model.
 
-use crate::runner::{Inputs, replayed};
-use crate::table::{Case, case_of, lines_of};
 use kc_gen::{Sample, sample};
+use kc_runs::{Ending, Held, ended, is_told};
+use kc_tables::{Case, case_of};
 use std::alloc::Global;
 use std::test::Fail;
 
@@ -114,6 +114,29 @@ fn edited(alloc: Global, config: &str, edits: &str) -> Result<String, Fail> {
     Ok(text)
 }
 
+/// An image `i`, a description `c` and a trace `t`.
+pub(crate) fn files<'a>(image: &'a [u8], config: &'a [u8], trace: &'a [u8]) -> [Held<'a>; 3] {
+    [
+        Held {
+            name: "i",
+            bytes: image,
+        },
+        Held {
+            name: "c",
+            bytes: config,
+        },
+        Held {
+            name: "t",
+            bytes: trace,
+        },
+    ]
+}
+
+/// Runs `replay` on these files; no read and no write fails.
+pub(crate) fn replayed(alloc: Global, held: &[Held<'_>]) -> Result<Ending, Fail> {
+    Ok(ended(alloc, "replay / i / c / t", held, &[], &[])?)
+}
+
 /// Runs a row's trace, and compares; the failure is the row's name.
 fn compare(alloc: Global, case: &mut Case<'static>) -> Result<(), Fail> {
     let name = case.text();
@@ -123,16 +146,9 @@ fn compare(alloc: Global, case: &mut Case<'static>) -> Result<(), Fail> {
     let at = case.number()?;
     patch(&mut image, at, &case.bytes(alloc)?);
     let config = edited(alloc, std::str::from_utf8(&config)?, case.text())?;
-    let trace = lines_of(alloc, case.text())?;
-    let inputs = Inputs {
-        image: &image,
-        config: config.as_bytes(),
-        trace: trace.as_bytes(),
-    };
-    let end = replayed(alloc, &inputs).ok().ok_or("memory")?;
-    let code = case.number()?;
-    let due = lines_of(alloc, case.text())?;
-    if u64::from(end.code) != code || end.written.as_slice() != due.as_bytes() {
+    let trace = case.lines(alloc)?;
+    let end = replayed(alloc, &files(&image, config.as_bytes(), trace.as_bytes()))?;
+    if !is_told(alloc, case, &end)? {
         Err(name)?;
     }
     Ok(())
@@ -156,13 +172,8 @@ fn the_code_of_an_elf_file_runs_alike(rt: HostRuntime) -> Result<(), Fail> {
     for byte in raw.iter().skip(16) {
         image.push(*byte)?;
     }
-    let trace = lines_of(alloc, "start / syscall / go 12 / leave / go 10")?;
-    let inputs = Inputs {
-        image: &image,
-        config: &config,
-        trace: trace.as_bytes(),
-    };
-    let end = replayed(alloc, &inputs).expect(&rt, "memory");
+    let trace = b"start\nsyscall\ngo 12\nleave\ngo 10\n";
+    let end = replayed(alloc, &files(&image, &config, trace))?;
     assert!(rt; end.code == 0);
     assert!(rt; end.written.as_slice() == b"turns 24\n".as_slice());
     Ok(())

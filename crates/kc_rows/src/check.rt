@@ -1,152 +1,141 @@
 //! `check` on a raw image with a certificate of letters.
 
-use crate::runner::{Held, ended, ended_over};
 use kc_io::MemFiles;
+use kc_runs::{Held, ended, ended_over, ends_so, is_told};
+use kc_tables::{Case, Unread, case_of};
 use std::alloc::{AllocError, Global};
 use std::test::Fail;
+
+/// An image's first bytes, its address and its code; the letters, where `~` is a newline; the exit code and the line.
+const LINES: &str = "\
+# nop, swapgs, mov rax, gs:[8], swapgs, sysretq
+ENTRYRAW | ffffffff81000000 | 90 0f 01 f8 65 48 8b 04 25 08 00 00 00 0f 01 f8 48 0f 07 | uukku | 0 | accepted contexts=1 nodes=5
+ENTRYRAW | ffffffff81000000 | 90 0f 01 f8 65 48 8b 04 25 08 00 00 00 0f 01 f8 48 0f 07 | uuuuu | 1 | refused C13 context 0 at 0xffffffff81000001
+ENTRYRAW | ffffffff81000000 | 90 0f 01 f8 65 48 8b 04 25 08 00 00 00 0f 01 f8 48 0f 07 | - | 1 | refused C2
+ENTRYRAW | ffffffff81000000 | 90 0f 01 f8 65 48 8b 04 25 08 00 00 00 0f 01 f8 48 0f 07 | uukkuu | 1 | refused C2
+ENTRYRAW | ffffffff81000000 | 90 0f 01 f8 65 48 8b 04 25 08 00 00 00 0f 01 f8 48 0f 07 | kukku | 1 | refused C3
+ENTRYRAW | ffffffff81000000 | 90 0f 01 f8 65 48 8b 04 25 08 00 00 00 0f 01 f8 48 0f 07 | uuxku | 5 | bad certificate 6 Range at 2
+# Bytes behind the return aren't looked at.
+ENTRYRAW | ffffffff81000000 | 48 0f 07 c3 c3 | u | 0 | accepted contexts=1 nodes=1
+# Without a swap the GS load is on the user's base.
+ENTRYRAW | ffffffff81000000 | 90 65 48 8b 04 25 08 00 00 00 48 0f 07 | uuu | 1 | refused C6 context 0 at 0xffffffff81000001
+# A swap that isn't turned back before the return.
+ENTRYRAW | ffffffff81000000 | 0f 01 f8 48 0f 07 | uk | 1 | refused C12 context 0 at 0xffffffff81000003
+# A byte that begins no instruction behind the nop.
+ENTRYRAW | ffffffff81000000 | 90 c3 | u | 1 | refused C5 context 0 at 0xffffffff81000001
+ENTRYRAW | ffffffff81000000 | 90 c3 | ~ | 5 | bad certificate 6 Range at 0
+# Code that ends without a return.
+ENTRYRAW | ffffffff81000000 | 90 | - | 1 | refused C5 context 0 at 0xffffffff81000001
+# The last byte of code is at 2^64 - 2, and at 2^64 - 1.
+ENTRYRAW | fffffffffffffffc | 48 0f 07 | u | 0 | accepted contexts=1 nodes=1
+ENTRYRAW | fffffffffffffffd | 48 0f 07 | u | 3 | bad image 6 SegmentOut at 8
+ENTRYRAX | ffffffff81000000 | 90 | u | 3 | bad image 1 BadMagic at 7
+";
+
+/// Words that are no command.
+const USAGES: &str = "\
+-
+--help
+-h / i / c / l
+
+check
+check / i / c
+check / i / c / l / x
+check / i /  / l
+check / i / -c / l
+Check / i / c / l
+find / i / c
+gen / 7 / 200
+";
 
 const USAGE: &str =
     "usage: entrycert check IMAGE CONFIG CERT, find IMAGE CONFIG, explain IMAGE CONFIG [CERT], replay IMAGE CONFIG TRACE, gen SEED SIZE\n";
 
-/// `nop`, `swapgs`, `mov rax, gs:[8]`, `swapgs`, `sysretq` at 0xffffffff81000000.
-const ACCEPTED: &[u8] =
-    b"ENTRYRAW\x00\x00\x00\x81\xff\xff\xff\xff\x90\x0f\x01\xf8\x65\x48\x8b\x04\x25\x08\x00\x00\x00\x0f\x01\xf8\x48\x0f\x07";
+/// The words; the read and the write that fail; the exit code and the line. The image is read by calls 0 and 1, the empty
+/// configuration by call 2, the letters by 3 and 4.
+const FAULTS: &str = "\
+check / i / c / l | 0 | - | 7 | read fault i
+check / i / c / l | 1 | - | 7 | read fault i
+check / i / c / l | 2 | - | 7 | read fault c
+check / i / c / l | 3 | - | 7 | read fault l
+check / i / c / l | 4 | - | 7 | read fault l
+check / i / c / l | 5 | - | 0 | accepted contexts=1 nodes=5
+check / x / c / l | - | - | 7 | read fault x
+check / i / c / a b | - | - | 7 | read fault a b
+check / i / i / l | - | - | 4 | bad config 10 NotBuilt -
+check / i / c / l | - | 0 | 8 | -
+check / i / c / c | - | 0 | 8 | -
+";
 
-/// The same without a swap: the GS load is on the user's base.
-const UNSWAPPED: &[u8] =
-    b"ENTRYRAW\x00\x00\x00\x81\xff\xff\xff\xff\x90\x65\x48\x8b\x04\x25\x08\x00\x00\x00\x48\x0f\x07";
+const ACCEPTED: &str =
+    "ENTRYRAW | ffffffff81000000 | 90 0f 01 f8 65 48 8b 04 25 08 00 00 00 0f 01 f8 48 0f 07 | uukku";
 
-/// A swap that isn't turned back before the return.
-const UNRETURNED: &[u8] = b"ENTRYRAW\x00\x00\x00\x81\xff\xff\xff\xff\x0f\x01\xf8\x48\x0f\x07";
+/// The image that a case's next columns tell.
+fn image_of(alloc: Global, case: &mut Case<'_>) -> Result<Vec<u8>, Unread> {
+    let mut image = Vec::from_slice(alloc, case.text().as_bytes())?;
+    image.extend_from_slice(&case.number()?.to_le_bytes())?;
+    image.extend_from_slice(&case.bytes(alloc)?)?;
+    Ok(image)
+}
 
-/// A byte that begins no instruction behind the `nop`.
-const UNDECODABLE: &[u8] = b"ENTRYRAW\x00\x00\x00\x81\xff\xff\xff\xff\x90\xc3";
+/// An image `i`, an empty description `c` and letters `l`.
+fn files<'a>(image: &'a [u8], letters: &'a [u8]) -> [Held<'a>; 3] {
+    [
+        Held {
+            name: "i",
+            bytes: image,
+        },
+        Held {
+            name: "c",
+            bytes: b"",
+        },
+        Held {
+            name: "l",
+            bytes: letters,
+        },
+    ]
+}
 
-/// Code that ends without a return.
-const ENDLESS: &[u8] = b"ENTRYRAW\x00\x00\x00\x81\xff\xff\xff\xff\x90";
-
-/// Bytes behind the return aren't looked at.
-const FOLLOWED: &[u8] = b"ENTRYRAW\x00\x00\x00\x81\xff\xff\xff\xff\x48\x0f\x07\xc3\xc3";
-
-/// The last byte of code is at 2^64 - 2.
-const HIGHEST: &[u8] = b"ENTRYRAW\xfc\xff\xff\xff\xff\xff\xff\xff\x48\x0f\x07";
-
-/// The last byte of code is at 2^64 - 1.
-const PAST: &[u8] = b"ENTRYRAW\xfd\xff\xff\xff\xff\xff\xff\xff\x48\x0f\x07";
-
-/// Images, letters, and the status and line of `check`.
-const LINES: &[(&[u8], &[u8], u8, &str)] = &[
-    (ACCEPTED, b"uukku", 0, "accepted contexts=1 nodes=5\n"),
-    (FOLLOWED, b"u", 0, "accepted contexts=1 nodes=1\n"),
-    (HIGHEST, b"u", 0, "accepted contexts=1 nodes=1\n"),
-    (
-        ACCEPTED,
-        b"uuuuu",
-        1,
-        "refused C13 context 0 at 0xffffffff81000001\n",
-    ),
-    (ACCEPTED, b"", 1, "refused C2\n"),
-    (ACCEPTED, b"uukkuu", 1, "refused C2\n"),
-    (ACCEPTED, b"kukku", 1, "refused C3\n"),
-    (
-        UNSWAPPED,
-        b"uuu",
-        1,
-        "refused C6 context 0 at 0xffffffff81000001\n",
-    ),
-    (
-        UNRETURNED,
-        b"uk",
-        1,
-        "refused C12 context 0 at 0xffffffff81000003\n",
-    ),
-    (
-        UNDECODABLE,
-        b"u",
-        1,
-        "refused C5 context 0 at 0xffffffff81000001\n",
-    ),
-    (
-        ENDLESS,
-        b"",
-        1,
-        "refused C5 context 0 at 0xffffffff81000001\n",
-    ),
-    (PAST, b"u", 3, "bad image 6 SegmentOut at 8\n"),
-    (b"ENTRYRAX", b"u", 3, "bad image 1 BadMagic at 7\n"),
-    (ACCEPTED, b"uuxku", 5, "bad certificate 6 Range at 2\n"),
-    (UNDECODABLE, b"\n", 5, "bad certificate 6 Range at 0\n"),
-];
+/// The letters of a column.
+fn letters_of(column: &str) -> &[u8] {
+    match column {
+        "-" => b"",
+        "~" => b"\n",
+        _ => column.as_bytes(),
+    }
+}
 
 #[test]
 fn words_that_are_no_command_get_the_usage_line(rt: HostRuntime) -> Result<(), Fail> {
-    let cases: [&[&str]; 12] = [
-        &[],
-        &["--help"],
-        &["-h", "i", "c", "l"],
-        &[""],
-        &["check"],
-        &["check", "i", "c"],
-        &["check", "i", "c", "l", "x"],
-        &["check", "i", "", "l"],
-        &["check", "i", "-c", "l"],
-        &["Check", "i", "c", "l"],
-        &["find", "i", "c"],
-        &["gen", "7", "200"],
-    ];
-    for words in cases {
+    for words in USAGES.lines() {
         let end = ended(rt.alloc(), words, &[], &[], &[]).expect(&rt, "memory");
-        assert!(rt; end.code == 2, "{words:?}");
-        assert!(rt; end.written.as_slice() == USAGE.as_bytes(), "{words:?}");
+        assert!(rt; end.code == 2, "{words}");
+        assert!(rt; end.written.as_slice() == USAGE.as_bytes(), "{words}");
     }
     Ok(())
 }
 
 #[test]
 fn each_image_and_its_letters_get_their_line(rt: HostRuntime) -> Result<(), Fail> {
-    for (image, letters, code, line) in LINES {
-        let held = [
-            Held {
-                name: "i",
-                bytes: image,
-            },
-            Held {
-                name: "c",
-                bytes: b"",
-            },
-            Held {
-                name: "l",
-                bytes: letters,
-            },
-        ];
-        let words = ["check", "i", "c", "l"];
-        let end = ended(rt.alloc(), &words, &held, &[], &[]).expect(&rt, "memory");
-        assert!(rt; end.code == *code, "{line}");
-        assert!(rt; end.written.as_slice() == line.as_bytes(), "{line}");
+    let alloc = rt.alloc();
+    for line in LINES.lines() {
+        if let Some(mut case) = case_of(line) {
+            let image = image_of(alloc, &mut case)?;
+            let held = files(&image, letters_of(case.text()));
+            let end = ended(alloc, "check / i / c / l", &held, &[], &[]).expect(&rt, "memory");
+            assert!(rt; is_told(alloc, &mut case, &end)?, "{line}");
+        }
     }
     Ok(())
 }
 
 #[test]
 fn a_cut_image_ends_in_its_header(rt: HostRuntime) -> Result<(), Fail> {
+    let alloc = rt.alloc();
     for len in 0..17 {
-        let held = [
-            Held {
-                name: "i",
-                bytes: &ACCEPTED[..len],
-            },
-            Held {
-                name: "c",
-                bytes: b"",
-            },
-            Held {
-                name: "l",
-                bytes: b"",
-            },
-        ];
-        let words = ["check", "i", "c", "l"];
-        let end = ended(rt.alloc(), &words, &held, &[], &[]).expect(&rt, "memory");
-        let line = format!(in rt.alloc(); "bad image 5 HeaderOut at {len}\n")?;
+        let held = files(&b"ENTRYRAW\0\0\0\x81\xff\xff\xff\xff"[..len], b"");
+        let end = ended(alloc, "check / i / c / l", &held, &[], &[]).expect(&rt, "memory");
+        let line = format!(in alloc; "bad image 5 HeaderOut at {len}\n")?;
         assert!(rt; end.code == 3, "{len}");
         assert!(rt; end.written.as_slice() == line.as_bytes(), "{len}");
     }
@@ -155,79 +144,43 @@ fn a_cut_image_ends_in_its_header(rt: HostRuntime) -> Result<(), Fail> {
 
 #[test]
 fn faults_of_reading_and_writing_have_their_place(rt: HostRuntime) -> Result<(), Fail> {
-    // The image is read by calls 0 and 1, the empty configuration by call 2, the letters by 3 and 4.
-    let cases: [(&[&str], &[u64], &[u64], u8, &str); 11] = [
-        (&["check", "i", "c", "l"], &[0], &[], 7, "read fault i\n"),
-        (&["check", "i", "c", "l"], &[1], &[], 7, "read fault i\n"),
-        (&["check", "i", "c", "l"], &[2], &[], 7, "read fault c\n"),
-        (&["check", "i", "c", "l"], &[3], &[], 7, "read fault l\n"),
-        (&["check", "i", "c", "l"], &[4], &[], 7, "read fault l\n"),
-        (
-            &["check", "i", "c", "l"],
-            &[5],
-            &[],
-            0,
-            "accepted contexts=1 nodes=5\n",
-        ),
-        (&["check", "x", "c", "l"], &[], &[], 7, "read fault x\n"),
-        (&["check", "i", "c", "a b"], &[], &[], 7, "read fault a b\n"),
-        (
-            &["check", "i", "i", "l"],
-            &[],
-            &[],
-            4,
-            "bad config 10 NotBuilt -\n",
-        ),
-        (&["check", "i", "c", "l"], &[], &[0], 8, ""),
-        (&["check", "i", "c", "c"], &[], &[0], 8, ""),
-    ];
-    for (words, reads, writes, code, line) in cases {
-        let held = [
-            Held {
-                name: "i",
-                bytes: ACCEPTED,
-            },
-            Held {
-                name: "c",
-                bytes: b"",
-            },
-            Held {
-                name: "l",
-                bytes: b"uukku",
-            },
-        ];
-        let end = ended(rt.alloc(), words, &held, reads, writes).expect(&rt, "memory");
-        assert!(rt; end.code == code, "{words:?} {line}");
-        assert!(rt;
-            end.written.as_slice() == line.as_bytes(),
-            "{words:?} {line}"
-        );
+    let alloc = rt.alloc();
+    let mut accepted = case_of(ACCEPTED).ok_or("a case")?;
+    let image = image_of(alloc, &mut accepted)?;
+    let held = files(&image, accepted.text().as_bytes());
+    for line in FAULTS.lines() {
+        if let Some(mut case) = case_of(line) {
+            assert!(rt; ends_so(alloc, &mut case, &held)?, "{line}");
+        }
     }
     Ok(())
 }
 
-/// Files that each have this many bytes.
-fn large_files(alloc: Global, names: &[&str], len: usize) -> Result<MemFiles, AllocError> {
-    let mut all = Vec::new(alloc);
+/// A size of the image, and what comes of it.
+const SIZES: &str = "\
+4000000 | 3 | bad image 1 BadMagic at 0
+4000001 | a | too large i
+";
+
+/// An image `i` of this many bytes.
+fn large_file(alloc: Global, len: usize) -> Result<MemFiles, AllocError> {
+    let mut names = Vec::new(alloc);
     let mut bytes = Vec::new(alloc);
-    for name in names {
-        all.push(String::from_str(alloc, name)?)?;
-        bytes.push(vec![in alloc; b'u'; len]?)?;
-    }
-    Ok(MemFiles::new(all, bytes, Vec::new(alloc)))
+    names.push(String::from_str(alloc, "i")?)?;
+    bytes.push(vec![in alloc; b'u'; len]?)?;
+    Ok(MemFiles::new(names, bytes, Vec::new(alloc)))
 }
 
 #[test]
 fn a_file_over_its_limit_by_one_byte_is_too_large(rt: HostRuntime) -> Result<(), Fail> {
-    let words = ["check", "i", "c", "l"];
-    for (len, code, line) in [
-        (67_108_864, 3, "bad image 1 BadMagic at 0\n"),
-        (67_108_865, 10, "too large i\n"),
-    ] {
-        let mut files = large_files(rt.alloc(), &["i"], len)?;
-        let end = ended_over(rt.alloc(), &words, &mut files, &[]).expect(&rt, "memory");
-        assert!(rt; end.code == code, "{line}");
-        assert!(rt; end.written.as_slice() == line.as_bytes(), "{line}");
+    let alloc = rt.alloc();
+    for line in SIZES.lines() {
+        if let Some(mut case) = case_of(line) {
+            let mut files = large_file(alloc, case.number()? as usize)?;
+            let end = ended_over(alloc, "check / i / c / l", &mut files, &[]);
+            let end = end.expect(&rt, "memory");
+            assert!(rt; is_told(alloc, &mut case, &end)?, "{line}");
+        }
     }
     Ok(())
 }

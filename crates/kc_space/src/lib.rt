@@ -5,8 +5,6 @@ mod env;
 mod gs;
 mod latches;
 mod map;
-#[cfg(test)]
-mod tests;
 mod tri;
 mod who;
 

@@ -1,4 +1,4 @@
-mod CutLemmas
+pub mod CutLemmas
 mod DigitLemmas
 mod EachLemmas
 mod FewLemmas

@@ -7,8 +7,6 @@ mod form;
 mod gathered;
 mod line;
 mod number;
-#[cfg(test)]
-mod tests;
 mod words;
 
 pub use assignment::Assignment;

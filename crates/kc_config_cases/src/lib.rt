@@ -1,0 +1,11 @@
+//! Cases of descriptions from outside this repository: edits of a file, and what is read or the fault that
+//! comes of it.
+#![tactic(auto)]
+
+mod answers;
+mod case;
+mod lines;
+mod run;
+mod values;
+
+pub use run::run;

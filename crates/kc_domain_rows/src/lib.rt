@@ -1,0 +1,7 @@
+//! Tests of known bits and of values.
+#![tactic(auto)]
+
+#[cfg(test)]
+mod bits;
+#[cfg(test)]
+mod values;
