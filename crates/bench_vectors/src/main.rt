@@ -2,8 +2,7 @@
 //! cases, prints each that differs, and last how many agree.
 #![tactic(auto)]
 
-mod domain_cases;
-mod forms;
+mod abs_cases;
 
 use std::{env, fs, io};
 
@@ -18,7 +17,12 @@ fn main(rt: HostRuntime) -> io::Result<()> {
     match kind.as_str() {
         "config" => kc_config_cases::run(&rt, path.as_str(), text.as_str()),
         "exec" => kc_cases::run(&rt, path.as_str(), text.as_str()),
-        "domains" => domain_cases::run(&rt, text.as_str()),
+        "domains" => abs_cases::run_domains(&rt, path.as_str(), text.as_str()),
+        "transfer" => {
+            let times = words.next();
+            abs_cases::run_transfers(&rt, path.as_str(), text.as_str(), times)
+        }
+        "events" => abs_cases::run_events(&rt, path.as_str(), text.as_str()),
         _ => {
             println!(rt; "unknown kind {kind}")?;
             Ok(())
