@@ -1,0 +1,13 @@
+pub mod Fault
+pub mod Rest
+pub mod Reads
+pub mod Spelling
+pub mod Room
+pub mod Numbers
+pub mod Spaces
+pub mod Values
+pub mod Slots
+pub mod Floors
+pub mod States
+pub mod Keys
+pub mod Stable
