@@ -126,3 +126,8 @@ IsFirstRefusal image d digests cert r =
     ((cert.digests ≢ digests) × (r ≡ at_table 1))
     ⊎ (((cert.digests ≡ digests) × ¬ (HasForm d cert) × (r ≡ at_table 2))
     ⊎ ((cert.digests ≡ digests) × HasForm d cert × (refusal_from_start image d cert ≡ Err r)))
+
+-- no condition is refused
+abbrev pub IsUnrefused : Contents → Description → Digests → Certificate → Type 0
+IsUnrefused image d digests cert =
+    (cert.digests ≡ digests) × HasForm d cert × (refusal_from_start image d cert ≡ Ok tt)

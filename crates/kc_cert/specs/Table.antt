@@ -1,7 +1,7 @@
 -- What a certificate's table has at a site, and the order of its parts. This project's own.
-use Rattle.std.specs.Prelude.{◌≡◌, ℕ, Bool, true, false, cond, ◌==◌, List, [], ◌∷◌, map, filter, find, position, Option, Some, None, AllPairs, IfSome, slice_get}
+use Rattle.std.specs.Prelude.{◌≡◌, ℕ, ◌<◌, ◌≤◌, Bool, true, false, cond, ◌==◌, List, [], ◌∷◌, map, filter, find, position, Option, Some, None, AllPairs, IfSome, length, slice_get, slice_index_or}
 use Rattle.std.specs.Cmp.Lexicographic.{slice_cmp}
-use Rattle.std.specs.Ordering.{is_eq, nat_cmp}
+use Rattle.std.specs.Ordering.{is_eq, is_lt, nat_cmp}
 use Rattle.std.specs.declared.cmp.Ordering.{Ordering}
 use Rattle.std.specs.declared.cmp.Ordering.TheVariants.{Less}
 use Rattle.kc_state.specs.Key.{key_numbers}
@@ -16,6 +16,12 @@ use Rattle.kc_cert.specs.declared.certificate.Node.{Node}
 -- each is less than all later ones
 abbrev pub RisesBy : {A : Type 0} → (A → A → Ordering) → List A → Type 0
 RisesBy order items = AllPairs (λ x y. order x y ≡ Less) items
+
+-- the items before index n are less than p, and those from n on aren't
+pub record IsFirstFrom {A : Type 0} (order : A → A → Ordering) (items : List A) (p : A) (n : ℕ) : Type 0 where
+  pub within : n ≤ length items
+  pub before : (i : ℕ) (d : A) → i < n → is_lt (order (slice_index_or items i d) p) ≡ true
+  pub after : (i : ℕ) (d : A) → n ≤ i → i < length items → is_lt (order (slice_index_or items i d) p) ≡ false
 
 -- what holds of each item and its number, counted from 0
 abbrev pub EachNumbered : {A : Type 0} → (ℕ → A → Type 0) → List A → Type 0
