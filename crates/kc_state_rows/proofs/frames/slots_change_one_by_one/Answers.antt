@@ -1,6 +1,6 @@
 use Rattle.std.proofs.Common.{sym, ◌∙◌}
 use Rattle.kc_shapes.specs.RowLaws.{all_alike_rows}
-use Rattle.kc_frames.proofs.tests.slots_change_one_by_one.Goals as goal
+use Rattle.kc_state_rows.proofs.frames.slots_change_one_by_one.Goals as goal
 
 -- both have 296 slots
 pub join-requires : goal.join-requires
