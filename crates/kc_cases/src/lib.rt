@@ -2,11 +2,11 @@
 #![tactic(auto)]
 
 mod exec_case;
+mod files;
 mod lines;
-mod run;
 mod states;
 
 pub use exec_case::ExecCase;
+pub use files::run;
 pub use lines::{hex_bytes, number};
-pub use run::run;
 pub use states::Processor;

@@ -4,8 +4,8 @@
 
 mod answers;
 mod case;
+mod files;
 mod lines;
-mod run;
 mod values;
 
-pub use run::run;
+pub use files::run;
