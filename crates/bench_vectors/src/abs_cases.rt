@@ -1,6 +1,7 @@
 //! Cases of the analysis, under the descriptions beside their file and those that its lines make.
 
 use kc_case_files::{CaseFile, Descriptions, Judge};
+use kc_domain_cases::DomainCases;
 use kc_event_cases::EventCases;
 use kc_plain::NoMemory;
 use kc_tables::beside;
@@ -8,6 +9,16 @@ use kc_transfer_cases::TransferCases;
 use std::alloc::AllocError;
 use std::fs::{self, Files};
 use std::io;
+
+/// Known bits, values, spaces, floors and states.
+pub(crate) fn run_domains<R: Print + Files + AllocGlobal>(
+    rt: &R,
+    file: &str,
+    text: &str,
+) -> io::Result<()> {
+    let judge = kept(DomainCases::new(rt.alloc()))?;
+    run(rt, judge, file, text)
+}
 
 /// Instructions and ends of handlers; each call is made `times` times.
 pub(crate) fn run_transfers<R: Print + Files + AllocGlobal>(

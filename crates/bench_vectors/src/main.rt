@@ -3,8 +3,6 @@
 #![tactic(auto)]
 
 mod abs_cases;
-mod domain_cases;
-mod forms;
 
 use std::{env, fs, io};
 
@@ -19,7 +17,7 @@ fn main(rt: HostRuntime) -> io::Result<()> {
     match kind.as_str() {
         "config" => kc_config_cases::run(&rt, path.as_str(), text.as_str()),
         "exec" => kc_cases::run(&rt, path.as_str(), text.as_str()),
-        "domains" => domain_cases::run(&rt, text.as_str()),
+        "domains" => abs_cases::run_domains(&rt, path.as_str(), text.as_str()),
         "transfer" => {
             let times = words.next();
             abs_cases::run_transfers(&rt, path.as_str(), text.as_str(), times)

@@ -8,6 +8,8 @@ mod deliveries;
 #[cfg(test)]
 mod descriptions;
 #[cfg(test)]
+mod domains;
+#[cfg(test)]
 mod effects;
 #[cfg(test)]
 mod events;

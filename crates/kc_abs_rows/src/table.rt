@@ -3,6 +3,7 @@
 
 use crate::descriptions::DESCRIPTIONS;
 use kc_case_files::{CaseFile, Descriptions, Judge};
+use kc_domain_cases::DomainCases;
 use kc_event_cases::EventCases;
 use kc_gen::{Sample, sample};
 use kc_transfer_cases::TransferCases;
@@ -12,6 +13,7 @@ use std::test::Fail;
 /// Which calls the cases of a table are of.
 #[derive(Clone, Copy)]
 pub enum Kind {
+    Domain,
     Transfer,
     Event,
 }
@@ -21,6 +23,12 @@ pub fn compare(alloc: Global, kind: Kind, table: &'static str) -> Result<(), Fai
     let mut file = CaseFile::new(samples(alloc)?);
     read(alloc, &mut file, &mut Nothing, DESCRIPTIONS)?;
     match kind {
+        Kind::Domain => read(
+            alloc,
+            &mut file,
+            &mut DomainCases::new(alloc).ok().ok_or("memory")?,
+            table,
+        ),
         Kind::Transfer => read(
             alloc,
             &mut file,
