@@ -4,7 +4,7 @@ use kc_abs_text::{answer, count, floor, map, number, tri, value, who};
 use kc_lattice::Meaning;
 use kc_regions::Config;
 use kc_space::SpaceEnv;
-use kc_value::ValueEnv;
+use kc_value::{Value, ValueEnv};
 use kc_words::Span;
 
 // The stacks by their numbers; those past the last one are empty.
@@ -42,12 +42,19 @@ fn environment(cfg: &Config, text: &str) -> Option<ValueEnv> {
     })
 }
 
+// Whether the value stands for the number.
+fn stands_in(v: &Value, env: &ValueEnv, n: u64) -> bool {
+    v.stands(env, &n)
+}
+
 /// The environment; the value and a number.
 pub(crate) fn value_stands(cfg: &Config, arguments: (&str, &str), due: &str) -> Option<bool> {
     let (v, n) = arguments.1.split_once(' ')?;
     let (v, n, due) = (value(cfg, v)?, number(n)?, answer(due)?);
-    let env = environment(cfg, arguments.0)?;
-    Some(v.stands(&env, &n) == due)
+    match environment(cfg, arguments.0) {
+        Some(env) => Some(stands_in(&v, &env, n) == due),
+        None => None,
+    }
 }
 
 // `kernel=N user=N`.
