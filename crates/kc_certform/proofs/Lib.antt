@@ -1,0 +1,5 @@
+mod OrderLemmas
+mod PickLemmas
+pub mod WrittenLemmas
+mod FindLemmas
+mod AddLemmas

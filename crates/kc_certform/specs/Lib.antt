@@ -1,0 +1,5 @@
+pub mod Numbers
+pub mod CertBytes
+pub mod HasSpelling
+pub mod Written
+pub mod Finds
