@@ -1,0 +1,4 @@
+mod Only
+mod KeyOnly
+mod ListOnly
+mod ReadOnly
