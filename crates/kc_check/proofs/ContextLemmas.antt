@@ -1,0 +1,60 @@
+-- What the form of a table says of a context by its number, and of the nodes of a context: each names it.
+use Rattle.std.proofs.Common.{◌≡◌, ℕ, ◌<◌, Bool, true, false, List, length, get_or, Option, Some, None, ap, ◌∙◌, subst, arith}
+use Rattle.std.proofs.lemmas.Bool.{eqb-true}
+use Rattle.std.proofs.lemmas.List.Elements.{filter_passes}
+use Rattle.std.specs.Prelude.{IfSome, ◌==◌, slice_get}
+use Rattle.kc_regions.specs.Description.{Description}
+use Rattle.kc_regions.specs.Region.{stacks_of}
+use Rattle.kc_regions.specs.Valid.{IsValid}
+use Rattle.kc_value.specs.Made.{IsPlace}
+use Rattle.kc_state.proofs.KeyLemmas.{key_place}
+use Rattle.kc_state.proofs.StackLemmas.{is_place}
+use Rattle.kc_state.specs.Places.{below_address, home_of, home_stack}
+use Rattle.kc_state.specs.AbsEvents.{HasStack, IsStackOf}
+use Rattle.kc_state.specs.Key.{IsKey}
+use Rattle.kc_state.specs.declared.key.Key.{Key}
+use Rattle.kc_cert.specs.Form.{HasForm, IsContext}
+use Rattle.kc_cert.specs.Table.{nodes_of}
+use Rattle.kc_cert.specs.declared.certificate.Certificate.{Certificate}
+use Rattle.kc_cert.specs.declared.certificate.Context.{Context}
+use Rattle.kc_cert.specs.declared.certificate.Node.{Node}
+
+there : (o : Option Context) (P : Context → Type 0) (c : Context) → o ≡ Some c → IfSome o P → P c
+there o P c e h = subst (λ (q : Option Context). IfSome q P) e h
+
+pub context-key : (d : Description) (cert : Certificate) (i : ℕ) (c : Context) → HasForm d cert
+    → slice_get cert.contexts i ≡ Some c → IsKey cert.stacks c.key
+context-key d cert i c form at =
+    (there (slice_get cert.contexts i) (IsContext d cert i) c at (form.contexts i)).key
+
+stack-there : (d : Description) (n : ℕ) (stack : Option ℕ) → n ≡ length (stacks_of d.regions)
+    → IfSome stack (λ s. s < n) → IsStackOf d stack
+stack-there d n (Some s) e h = omega (arith, e, h)
+stack-there d n None e h = tt
+
+pub context-stack : (d : Description) (cert : Certificate) (i : ℕ) (c : Context) → HasForm d cert
+    → slice_get cert.contexts i ≡ Some c → HasStack d c.key
+context-stack d cert i c form at =
+    stack-there d cert.stacks c.key.stack form.stacks (context-key d cert i c form at).stack
+
+-- the stack of a context's frame is one of the sixteen
+module _ (d : Description) (valid : IsValid d) where
+  home-of : (base : Option ℕ) (syscall : Bool) (stack : Option ℕ) → IsPlace stack → IsPlace (home_of d base syscall stack)
+  home-of (Some base) syscall stack h = is_place d (below_address base 8) valid
+  home-of None true stack h = tt
+  home-of None false stack h = h
+
+  pub home-below : (key : Key) (s : ℕ) → HasStack d key → home_stack d key ≡ Some s → s < 16
+  home-below key s h e =
+      subst (λ (o : Option ℕ). IsPlace o) e (home-of key.base key.syscall key.stack (key_place d key valid h))
+
+-- a node of context i names it
+pub node-names : (cert : Certificate) (i k : ℕ) (n : Node) (nodes : List Node) (c : Context) → nodes ≡ nodes_of cert i
+    → k < length nodes → n ≡ get_or nodes k n → slice_get cert.contexts i ≡ Some c
+    → slice_get cert.contexts n.context ≡ Some c
+node-names cert i k n nodes c own lt is at =
+    let fits : k < length (nodes_of cert i) = omega (arith, lt, ap length own) in
+    let here : n ≡ get_or (nodes_of cert i) k n = is ∙ ap (λ (l : List Node). get_or l k n) own in
+    let named : (n.context == i) ≡ true =
+    ap (λ (m : Node). m.context == i) here ∙ filter_passes (λ (m : Node). m.context == i) cert.nodes k n fits in
+    ap (λ (j : ℕ). slice_get cert.contexts j) (eqb-true n.context i named) ∙ at

@@ -1,0 +1,11 @@
+pub mod EachLemmas
+pub mod GoesLemmas
+pub mod WrittenLemmas
+pub mod CountedLemmas
+pub mod PassLemmas
+pub mod EventLemmas
+pub mod ListLemmas
+pub mod MarkLemmas
+pub mod LoopLemmas
+pub mod ContextLemmas
+pub mod WholeLemmas

@@ -1,0 +1,21 @@
+//! The exact checker of certificates: it compares the rows of a table, one node and one edge at a time, joins nothing
+//! and repairs nothing.
+#![tactic(auto)]
+
+mod checker;
+mod context;
+mod counted;
+mod events;
+mod form;
+mod node;
+mod order;
+mod placed;
+mod refused;
+mod returning;
+mod start;
+mod successors;
+mod table;
+mod user;
+mod written;
+
+pub use checker::check;
