@@ -7,5 +7,6 @@ mod names;
 mod operands;
 mod write;
 
+pub use digits::write_digits;
 pub use line::LONGEST_TEXT;
 pub use write::write_insn;

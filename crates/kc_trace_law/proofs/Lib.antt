@@ -1,0 +1,9 @@
+mod Types
+mod NumberLemmas
+mod WordLemmas
+mod AssignmentLemmas
+mod SetLemmas
+mod LineLemmas
+mod PlaceLemmas
+mod ValueLemmas
+mod TurnLemmas

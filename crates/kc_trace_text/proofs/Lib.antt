@@ -1,0 +1,3 @@
+mod SinkLemmas
+mod LoopLemmas
+mod PrintLemmas
