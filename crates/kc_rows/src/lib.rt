@@ -1,5 +1,21 @@
-//! Tests of the program over objects in memory, as tables of cases.
+//! Tests of `check` and `upgrade` over objects in memory, as tables of cases.
 #![tactic(auto)]
 
 #[cfg(test)]
 mod check;
+#[cfg(test)]
+mod conditions;
+#[cfg(test)]
+mod edits;
+#[cfg(test)]
+mod files;
+#[cfg(test)]
+mod first_sample;
+#[cfg(test)]
+mod forms;
+#[cfg(test)]
+mod second_sample;
+#[cfg(test)]
+mod small;
+#[cfg(test)]
+mod upgrade;

@@ -1,10 +1,13 @@
 //! Runs of the program over objects in memory, as tables of tests say them.
 #![tactic(auto)]
 
+mod packed;
+
 use kc_io::{MemFiles, MemSink};
 use kc_plain::NoMemory;
 use kc_tables::{Case, Unread};
 use kc_top::{Words, run_in_memory};
+pub use packed::unpack;
 use std::alloc::Global;
 
 /// A file by its name.
@@ -21,8 +24,15 @@ pub struct Ending {
     pub written: Vec<u8>,
 }
 
+impl Ending {
+    /// Whether it has this exit code, and wrote this text.
+    pub fn is(&self, code: u8, text: &str) -> bool {
+        self.code == code && self.written.as_slice() == text.as_bytes()
+    }
+}
+
 /// The most bytes that a run may write.
-const ROOM: usize = 10_000;
+const ROOM: usize = 2_000_000;
 
 /// The words of a column, ` / ` between them; `-` is none.
 fn words_of(alloc: Global, column: &str) -> Result<Words, NoMemory> {

@@ -1,10 +1,8 @@
 pub mod LinesLemmas
 pub mod WordsLemmas
-pub mod PathLemmas
-pub mod SafeLemmas
-pub mod FaultLemmas
 pub mod WorkLemmas
+pub mod VerdictLemmas
 pub mod OutputLemmas
-pub mod CheckLemmas
+pub mod ReadLemmas
 pub mod TraceLemmas
 pub mod LoadLemmas

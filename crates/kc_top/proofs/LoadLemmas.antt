@@ -1,5 +1,5 @@
--- What comes of work that begins with an image and a description, or with a trace, from what its steps found. Each
--- lemma takes what comes of the rest of the work to what comes of the work that begins with the file; a cause that comes
+-- What comes of work that begins with an image and a description, with a certificate or with a trace, from what its
+-- steps found. Each lemma takes what comes of the rest of the work to what comes of the work that begins with the file; a cause that comes
 -- where nothing follows (`Never`) comes whatever follows (`-cut`).
 use Rattle.std.proofs.Common.{◌≡◌, ◌≢◌, ℕ, ◌≤◌, List, length, refl, ap, sym, inl, inr, subst}
 use Rattle.std.specs.Prelude.{Option, IfSome, IfErr, IsErrAnd, Result, Ok, Err}
@@ -18,18 +18,22 @@ use Rattle.kc_trace.specs.declared.line.Line.{Line}
 use Rattle.kc_trace.specs.Script.{scripted}
 use Rattle.kc_replay.specs.Turns.{first_set}
 use Rattle.kc_replay.specs.Script.{Reads}
+use Rattle.kc_cert.specs.declared.certificate.Certificate.{Certificate}
+use Rattle.kc_certfmt.specs.Reading.{cert_at}
+use Rattle.kc_top.specs.declared.load.Loaded.{Loaded}
 use Rattle.kc_top.specs.declared.outcome.Outcome.{Outcome}
 use Rattle.kc_top.specs.declared.stop.Stop.{Stop}
-use Rattle.kc_top.specs.declared.stop.Stop.TheVariants.{ReadFault, TooLarge, BadImage, BadConfig, NotBuilt, BadCert}
+use Rattle.kc_top.specs.declared.stop.Stop.TheVariants.{ReadFault, TooLarge, BadImage, BadConfig, BadCert}
 use Rattle.kc_top.specs.declared.stop.Stop.TheVariants.{BadTrace, NoMemory}
 use Rattle.kc_top.specs.Words.{Inputs}
 use Rattle.kc_top.specs.Work.{Work, Ruled, form, Comes}
-use Rattle.kc_top.specs.Output.{IMAGE_LIMIT, CONFIG_LIMIT, TRACE_LIMIT, bad_image, bad_config, bad_trace, IsBrokenRule}
-use Rattle.kc_top.specs.Output.{configured, loaded, IsNotStarted, scripted_by}
-use Rattle.kc_top.specs.OutputSteps.{outcome_of, IsNoImage, IsNoDescription, IsNoTrace, AreLoaded, IsScripted, Never}
+use Rattle.kc_top.specs.Output.{IMAGE_LIMIT, CONFIG_LIMIT, CERT_LIMIT, TRACE_LIMIT, bad_image, bad_config, bad_cert}
+use Rattle.kc_top.specs.Output.{bad_trace, IsBrokenRule, of_files, configured, loaded, certified, IsNotStarted}
+use Rattle.kc_top.specs.Output.{scripted_by, AreLoaded, IsCertificateOf}
+use Rattle.kc_top.specs.OutputSteps.{outcome_of, IsNoImage, IsNoDescription, IsNoTrace, IsScripted, Never}
 use Rattle.kc_top.proofs.WorkLemmas.{Comes-more, Wants-map, form-map, Ruled-map}
 use Rattle.kc_top.proofs.OutputLemmas.{Rose-before}
-use Rattle.kc_top.proofs.CheckLemmas.{after_read, after_form, unformed}
+use Rattle.kc_top.proofs.ReadLemmas.{after_read, after_form, unformed}
 
 -- what was handed on is what it was
 pub handed_on : {A E : Type 0} (P : E → Type 0) (stop : E) (r : Result A E) → IsErrAnd r (λ e. e ≡ stop) → P stop →
@@ -47,92 +51,126 @@ Comes-later first second third w o kept comes =
 
 -- ---- the image
 
+-- what follows of an image
+abbrev pub described : Inputs → (Loaded → Work) → List ℕ → Contents → Work
+described inputs next file image = configured inputs.config image (λ text cfg. next (of_files file image text cfg))
+
 -- after an image the description is due
-pub after_contents : (told : Option Held) (rose : List ℕ → Type 0) (inputs : Inputs)
-    (next : Contents → Description → Work) (file : List ℕ) (image : Contents) → IsWhole told inputs.image file →
-    length file ≤ IMAGE_LIMIT → contents_of file ≡ Ok image → (o : Outcome) →
-    Comes told rose (configured inputs.config image (next image)) o → Comes told rose (loaded inputs next) o
+pub after_contents : (told : Option Held) (rose : List ℕ → Type 0) (inputs : Inputs) (next : Loaded → Work)
+    (file : List ℕ) (image : Contents) → IsWhole told inputs.image file → length file ≤ IMAGE_LIMIT →
+    contents_of file ≡ Ok image → (o : Outcome) → Comes told rose (described inputs next file image) o →
+    Comes told rose (loaded inputs next) o
 after_contents told rose inputs next file image whole within is o follows =
-    let rest : Contents → Work = λ image. configured inputs.config image (next image) in
-    after_read told rose inputs.image IMAGE_LIMIT (λ file. form bad_image (contents_of file) rest) file whole within o
-    (after_form told rose bad_image (contents_of file) rest image o is follows)
+    after_read told rose inputs.image IMAGE_LIMIT (λ file. form bad_image (contents_of file) (described inputs next file))
+    file whole within o
+    (after_form told rose bad_image (contents_of file) (described inputs next file) image o is follows)
 
 -- the file is no image
-pub no_contents : (told : Option Held) (rose : List ℕ → Type 0) (inputs : Inputs)
-    (next : Contents → Description → Work) (file : List ℕ) (stop : Stop) → IsWhole told inputs.image file →
-    length file ≤ IMAGE_LIMIT → IsNoImage file stop → IfSome (outcome_of stop) (Comes told rose (loaded inputs next))
+pub no_contents : (told : Option Held) (rose : List ℕ → Type 0) (inputs : Inputs) (next : Loaded → Work)
+    (file : List ℕ) (stop : Stop) → IsWhole told inputs.image file → length file ≤ IMAGE_LIMIT → IsNoImage file stop →
+    IfSome (outcome_of stop) (Comes told rose (loaded inputs next))
 no_contents told rose inputs next file (BadImage fault) whole within is =
-    let rest : Contents → Work = λ image. configured inputs.config image (next image) in
-    after_read told rose inputs.image IMAGE_LIMIT (λ file. form bad_image (contents_of file) rest) file whole within
-    (bad_image fault) (unformed told rose bad_image (contents_of file) rest fault is)
+    after_read told rose inputs.image IMAGE_LIMIT (λ file. form bad_image (contents_of file) (described inputs next file))
+    file whole within (bad_image fault)
+    (unformed told rose bad_image (contents_of file) (described inputs next file) fault is)
 no_contents told rose inputs next file NoMemory whole within is = tt
 no_contents told rose inputs next file (ReadFault name) whole within is = absurd is
 no_contents told rose inputs next file (TooLarge name) whole within is = absurd is
 no_contents told rose inputs next file (BadConfig fault) whole within is = absurd is
-no_contents told rose inputs next file NotBuilt whole within is = absurd is
-no_contents told rose inputs next file (BadCert at) whole within is = absurd is
+no_contents told rose inputs next file (BadCert fault) whole within is = absurd is
 no_contents told rose inputs next file (BadTrace fault) whole within is = absurd is
 
 -- ---- the description
 
 -- what follows of a description's tables
-abbrev pub ruled : (Description → Work) → Description → Work
-ruled next cfg = Ruled (IsBrokenRule cfg) (IsValid cfg) (next cfg)
+abbrev pub ruled : (List ℕ → Description → Work) → List ℕ → Description → Work
+ruled next text cfg = Ruled (IsBrokenRule cfg) (IsValid cfg) (next text cfg)
 
 -- the first fault of a text is its outcome
 first_fault : (told : Option Held) (rose : List ℕ → Type 0) (image : Contents) (next : Description → Work)
     (text : List ℕ) (fault : ConfigFault) → IsFirstFault image.symbols text fault →
-    Comes told rose (form bad_config (description image.symbols text) (ruled next)) (bad_config fault)
+    Comes told rose (form bad_config (description image.symbols text)
+    (λ cfg. Ruled (IsBrokenRule cfg) (IsValid cfg) (next cfg))) (bad_config fault)
 first_fault told rose image next text fault (inl is) =
-    unformed told rose bad_config (description image.symbols text) (ruled next) fault is
+    unformed told rose bad_config (description image.symbols text)
+    (λ cfg. Ruled (IsBrokenRule cfg) (IsValid cfg) (next cfg)) fault is
 first_fault told rose image next text fault (inr found) =
-    after_form told rose bad_config (description image.symbols text) (ruled next) found.0 (bad_config fault) found.1
+    after_form told rose bad_config (description image.symbols text)
+    (λ cfg. Ruled (IsBrokenRule cfg) (IsValid cfg) (next cfg)) found.0 (bad_config fault) found.1
     (inl (fault, found.2, refl))
 
 -- the text is no description
 pub no_description : (told : Option Held) (rose : List ℕ → Type 0) (config : List ℕ) (image : Contents)
-    (next : Description → Work) (text : List ℕ) (stop : Stop) → IsWhole told config text →
+    (next : List ℕ → Description → Work) (text : List ℕ) (stop : Stop) → IsWhole told config text →
     length text ≤ CONFIG_LIMIT → IsNoDescription image text stop →
     IfSome (outcome_of stop) (Comes told rose (configured config image next))
 no_description told rose config image next text (BadConfig fault) whole within is =
-    after_read told rose config CONFIG_LIMIT (λ text. form bad_config (description image.symbols text) (ruled next))
-    text whole within (bad_config fault) (first_fault told rose image next text fault is)
+    after_read told rose config CONFIG_LIMIT
+    (λ text. form bad_config (description image.symbols text) (ruled next text)) text whole within (bad_config fault)
+    (first_fault told rose image (next text) text fault is)
 no_description told rose config image next text NoMemory whole within is = tt
 no_description told rose config image next text (ReadFault name) whole within is = absurd is
 no_description told rose config image next text (TooLarge name) whole within is = absurd is
 no_description told rose config image next text (BadImage fault) whole within is = absurd is
-no_description told rose config image next text NotBuilt whole within is = absurd is
-no_description told rose config image next text (BadCert at) whole within is = absurd is
+no_description told rose config image next text (BadCert fault) whole within is = absurd is
 no_description told rose config image next text (BadTrace fault) whole within is = absurd is
 
+-- what was loaded is what its files say
+of_its_files : (told : Option Held) (inputs : Inputs) (l : Loaded) → (are : AreLoaded told inputs l) →
+    of_files are.file l.image are.text l.config ≡ l
+of_its_files told inputs l are = λ i.
+    record { image = l.image; config = l.config; digests = (sym are.digests) i }
+
 -- after image and description what follows of them is due
-pub after_loaded : (told : Option Held) (rose : List ℕ → Type 0) (inputs : Inputs)
-    (next : Contents → Description → Work) (image : Contents) (cfg : Description) → AreLoaded told inputs image cfg →
-    (o : Outcome) → Comes told rose (next image cfg) o → Comes told rose (loaded inputs next) o
-after_loaded told rose inputs next image cfg are o follows =
-    after_contents told rose inputs next are.file image are.file_whole are.file_within are.is_image o
+pub after_loaded : (told : Option Held) (rose : List ℕ → Type 0) (inputs : Inputs) (next : Loaded → Work) (l : Loaded) →
+    AreLoaded told inputs l → (o : Outcome) → Comes told rose (next l) o → Comes told rose (loaded inputs next) o
+after_loaded told rose inputs next l are o follows =
+    let rest : List ℕ → Description → Work = λ text cfg. next (of_files are.file l.image text cfg) in
+    let then = subst (λ (m : Loaded). Comes told rose (next m) o) (sym (of_its_files told inputs l are)) follows in
+    after_contents told rose inputs next are.file l.image are.file_whole are.file_within are.is_image o
     (after_read told rose inputs.config CONFIG_LIMIT
-    (λ text. form bad_config (description image.symbols text) (ruled (next image))) are.text are.text_whole
+    (λ text. form bad_config (description l.image.symbols text) (ruled rest text)) are.text are.text_whole
     are.text_within o
-    (after_form told rose bad_config (description image.symbols are.text) (ruled (next image)) cfg o are.is_description
-    (inr (are.valid, follows))))
+    (after_form told rose bad_config (description l.image.symbols are.text) (ruled rest are.text) l.config o
+    are.is_description (inr (are.valid, then))))
 
 -- what comes where nothing follows of them
-pub loaded-cut : (told : Option Held) (rose : List ℕ → Type 0) (inputs : Inputs)
-    (next : Contents → Description → Work) (o : Outcome) → Comes told rose (loaded inputs (λ image cfg. Never)) o →
-    Comes told rose (loaded inputs next) o
+pub loaded-cut : (told : Option Held) (rose : List ℕ → Type 0) (inputs : Inputs) (next : Loaded → Work) (o : Outcome) →
+    Comes told rose (loaded inputs (λ l. Never)) o → Comes told rose (loaded inputs next) o
 loaded-cut told rose inputs next o =
+    let none : Loaded → Work = λ l. Never in
     Wants-map told rose inputs.image IMAGE_LIMIT
-    (λ file. form bad_image (contents_of file) (λ image. configured inputs.config image (λ cfg. Never)))
-    (λ file. form bad_image (contents_of file) (λ image. configured inputs.config image (next image))) o
-    (λ file. form-map told rose bad_image (contents_of file)
-    (λ image. configured inputs.config image (λ cfg. Never)) (λ image. configured inputs.config image (next image)) o
+    (λ file. form bad_image (contents_of file) (described inputs none file))
+    (λ file. form bad_image (contents_of file) (described inputs next file)) o
+    (λ file. form-map told rose bad_image (contents_of file) (described inputs none file)
+    (described inputs next file) o
     (λ image. Wants-map told rose inputs.config CONFIG_LIMIT
-    (λ text. form bad_config (description image.symbols text) (ruled (λ cfg. Never)))
-    (λ text. form bad_config (description image.symbols text) (ruled (next image))) o
-    (λ text. form-map told rose bad_config (description image.symbols text) (ruled (λ cfg. Never))
-    (ruled (next image)) o
-    (λ cfg. Ruled-map told rose (IsBrokenRule cfg) (IsValid cfg) Never (next image cfg) o (λ no. absurd no)))))
+    (λ text. form bad_config (description image.symbols text) (ruled (λ text cfg. Never) text))
+    (λ text. form bad_config (description image.symbols text)
+    (ruled (λ text cfg. next (of_files file image text cfg)) text)) o
+    (λ text. form-map told rose bad_config (description image.symbols text) (ruled (λ text cfg. Never) text)
+    (ruled (λ text cfg. next (of_files file image text cfg)) text) o
+    (λ cfg. Ruled-map told rose (IsBrokenRule cfg) (IsValid cfg) Never (next (of_files file image text cfg)) o
+    (λ no. absurd no)))))
+
+-- ---- the certificate
+
+-- after the certificate what follows of it is due
+pub after_certificate : (told : Option Held) (rose : List ℕ → Type 0) (cert : List ℕ) (next : Certificate → Work)
+    (c : Certificate) → IsCertificateOf told cert c → (o : Outcome) → Comes told rose (next c) o →
+    Comes told rose (certified cert next) o
+after_certificate told rose cert next c is o follows =
+    after_read told rose cert CERT_LIMIT (λ file. form bad_cert (cert_at file) next) is.file is.whole is.within o
+    (after_form told rose bad_cert (cert_at is.file) next c o is.is_certificate follows)
+
+-- what comes where nothing follows of it
+pub certified-cut : (told : Option Held) (rose : List ℕ → Type 0) (cert : List ℕ) (next : Certificate → Work)
+    (o : Outcome) → Comes told rose (certified cert (λ c. Never)) o → Comes told rose (certified cert next) o
+certified-cut told rose cert next o =
+    let none : Certificate → Work = λ c. Never in
+    Wants-map told rose cert CERT_LIMIT (λ file. form bad_cert (cert_at file) none)
+    (λ file. form bad_cert (cert_at file) next) o
+    (λ file. form-map told rose bad_cert (cert_at file) none next o (λ c no. absurd no))
 
 -- ---- the trace
 
@@ -165,8 +203,7 @@ no_trace told rose cfg trace next text (ReadFault name) whole within is = absurd
 no_trace told rose cfg trace next text (TooLarge name) whole within is = absurd is
 no_trace told rose cfg trace next text (BadImage fault) whole within is = absurd is
 no_trace told rose cfg trace next text (BadConfig fault) whole within is = absurd is
-no_trace told rose cfg trace next text NotBuilt whole within is = absurd is
-no_trace told rose cfg trace next text (BadCert at) whole within is = absurd is
+no_trace told rose cfg trace next text (BadCert fault) whole within is = absurd is
 
 -- after the lines what follows of them is due
 pub after_scripted : (told : Option Held) (rose : List ℕ → Type 0) (cfg : Description) (trace : List ℕ)

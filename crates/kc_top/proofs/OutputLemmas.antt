@@ -1,38 +1,45 @@
 -- What comes of the program's own work, by cases on the request and its forms: each end has at most one outcome, whose
--- status is its own, and one where the request is decided; an accepted outcome says that the code stays safe. How an
--- outcome is told is read off what was written.
+-- status is its own, and one where the request is decided; an accepted outcome of a check says that the certificate is certified, and a refused one that it
+-- isn't. How an outcome is told is read off what was written.
 use Rattle.std.proofs.Common.{◌≡◌, ◌≢◌, ℕ, ◌≤◌, Bool, true, false, List, length, refl, ap, sym, ◌∙◌, arith, inl, inr, subst}
 use Rattle.std.proofs.Common.{◌+◌, ◌<◌, take, length-append, length-take}
 use Rattle.std.specs.Prelude.{Option, Some, None, IfSome, IsSomeAnd, Result, Ok, Err, IsSome}
 use Rattle.std.specs.Io.KnownBytes.{Appends}
 use Rattle.kc_io.specs.Count.{Rose}
 use Rattle.kc_io.specs.Memory.{shared_count}
-use Rattle.kc_io.specs.Files.{Held, IsWhole}
+use Rattle.kc_io.specs.Files.{Held}
 use Rattle.kc_io.specs.Sink.{SinkState, Writes, Refuses}
+use Rattle.kc_image.specs.declared.fault.ImageFault.{ImageFault}
 use Rattle.kc_image.specs.Image.{Contents}
 use Rattle.kc_image.specs.ImageFile.{contents_of}
 use Rattle.kc_regions.specs.Description.{Description}
+use Rattle.kc_regions.specs.Valid.{IsValid}
+use Rattle.kc_config.specs.declared.fault.ConfigFault.{ConfigFault}
 use Rattle.kc_config.specs.Reading.{description}
+use Rattle.kc_trace.specs.declared.fault.TraceFault.{TraceFault}
+use Rattle.kc_trace.specs.declared.fault.TraceFault.TheVariants.{NotAdmitted}
 use Rattle.kc_trace.specs.declared.line.Line.{Line}
 use Rattle.kc_trace.specs.Script.{scripted}
 use Rattle.kc_replay.specs.Told.{IsReplayed}
+use Rattle.kc_cert.specs.declared.certificate.Certificate.{Certificate}
+use Rattle.kc_certfields.specs.declared.fault.CertFault.{CertFault}
+use Rattle.kc_certfmt.specs.Reading.{cert_at}
+use Rattle.kc_top.specs.declared.load.Loaded.{Loaded}
 use Rattle.kc_top.specs.declared.status.Status.{Status}
-use Rattle.kc_top.specs.declared.status.Status.TheVariants.{Done, ReadFault, WriteFault, NoMemory}
-use Rattle.kc_top.specs.declared.letters.Refusal.{Refusal}
-use Rattle.kc_top.specs.declared.letters.Refusal.TheVariants.{Table, Node}
+use Rattle.kc_top.specs.declared.status.Status.TheVariants.{Done, Refused, BadImage, BadConfig, BadCert, ReadFault}
+use Rattle.kc_top.specs.declared.status.Status.TheVariants.{WriteFault, NoMemory, TooLarge}
 use Rattle.kc_top.specs.declared.outcome.Outcome.{Outcome}
-use Rattle.kc_top.specs.Words.{Request, Check, Replay}
-use Rattle.kc_top.specs.FirstForm.{Code, first_image, first_config, first_letters}
-use Rattle.kc_top.specs.Letters.{judged}
-use Rattle.kc_top.specs.Machine.{StaysSafe}
-use Rattle.kc_top.specs.Work.{Work, Over, Wants, Ruled, Only, form, Comes}
-use Rattle.kc_top.specs.Output.{CERT_LIMIT, CONFIG_LIMIT, IMAGE_LIMIT, usage, bad_image, bad_config, not_built, bad_cert}
-use Rattle.kc_top.specs.Output.{bad_trace, verdict, lettered, first_configured, IsBrokenRule, run_status, IsRun, work_of}
-use Rattle.kc_top.specs.Output.{IsSafeImage, AcceptsSafe, IsDecided, Tells}
-use Rattle.kc_top.proofs.SafeLemmas.{judged-safe}
-use Rattle.kc_top.proofs.FaultLemmas.{rule_fault-once, rule_fault-none}
+use Rattle.kc_top.specs.Words.{Inputs, Request, Check, Replay, Upgrade}
+use Rattle.kc_top.specs.Work.{Work, Over, Wants, Ruled, Only, form, IsRead, Comes}
+use Rattle.kc_top.specs.Output.{CERT_LIMIT, CONFIG_LIMIT, IMAGE_LIMIT, usage, bad_image, bad_config, bad_cert, bad_trace}
+use Rattle.kc_top.specs.Output.{IsBrokenRule, of_files, configured, loaded, certified, scripted_by, run_status, IsRun}
+use Rattle.kc_top.specs.Output.{IsVerdict, upgraded, work_of}
+use Rattle.kc_top.specs.Output.{AreLoaded, IsCertificateOf, IsCertifiedFor, IsUncertifiedFor, OfCheck, IsDecided}
+use Rattle.kc_top.specs.Output.{Tells}
+use Rattle.kc_decided.proofs.FaultLemmas.{rule_fault-once, rule_fault-none, rule_fault-or}
+use Rattle.kc_top.proofs.VerdictLemmas.{verdict-once, verdict-some, verdict-done, verdict-refused}
 use Rattle.kc_top.proofs.WorkLemmas.{IsEach, each-form, Comes-each, IsSingle, single-only, single-form, IsEnding}
-use Rattle.kc_top.proofs.WorkLemmas.{ending-only, ending-form}
+use Rattle.kc_top.proofs.WorkLemmas.{ending-only, ending-form, ending-form-of}
 
 -- one text is told of a run
 abbrev pub IsToldOnce : Type 0
@@ -51,32 +58,90 @@ single-run once image cfg lines o p is is' =
 single-rule : (cfg : Description) (o p : Outcome) → IsBrokenRule cfg o → IsBrokenRule cfg p → o ≡ p
 single-rule cfg o p is is' = is.2 ∙ ap bad_config (rule_fault-once cfg is.0 is'.0 is.1 is'.1) ∙ sym is'.2
 
--- no end has two outcomes
-pub single : IsToldOnce → (request : Option Request) → IsSingle (work_of request)
-single once None = single-only usage
-single once (Some (Check inputs cert)) = λ image. single-form bad_image (first_image image) _
-    (λ code config. single-form not_built (first_config config) _
-    (λ _ text. single-form bad_cert (first_letters text) _ (λ letters. single-only (verdict (judged code letters)))))
-single once (Some (Replay inputs trace)) = λ file. single-form bad_image (contents_of file) _
+-- ---- what the modes' files lead to
+
+abbrev described : Inputs → (Loaded → Work) → List ℕ → Contents → Work
+described inputs next file image = configured inputs.config image (λ text cfg. next (of_files file image text cfg))
+
+abbrev ruled : (Description → Work) → Description → Work
+ruled next cfg = Ruled (IsBrokenRule cfg) (IsValid cfg) (next cfg)
+
+abbrev pub checks : List ℕ → Loaded → Work
+checks cert l = certified cert (λ c. Over (IsVerdict l c))
+
+abbrev pub replays : List ℕ → Loaded → Work
+replays trace l = scripted_by l.config trace (λ lines. Over (IsRun l.image l.config lines))
+
+abbrev pub upgrades : Certificate → Work
+upgrades c = Only (upgraded c)
+
+-- ---- work that begins with an image and a description, or with a certificate
+
+single-loaded : (inputs : Inputs) (next : Loaded → Work) → ((l : Loaded) → IsSingle (next l)) →
+    IsSingle (loaded inputs next)
+single-loaded inputs next single = λ file. single-form bad_image (contents_of file) _
     (λ image text. single-form bad_config (description image.symbols text) _
     (λ cfg. (
       single-rule cfg,
       λ o is valid. rule_fault-none cfg is.0 valid is.1,
-      λ valid script. single-form bad_trace (scripted script) _
-          (λ read. (
-            λ o p is is'. is.1 ∙ sym is'.1,
-            λ o is starts. is.0 starts,
-            λ starts. single-run once image cfg read.lines,
-          )),
+      λ valid. single (of_files file image text cfg),
     )))
+
+single-certified : (cert : List ℕ) (next : Certificate → Work) → ((c : Certificate) → IsSingle (next c)) →
+    IsSingle (certified cert next)
+single-certified cert next single = λ file. single-form bad_cert (cert_at file) next single
+
+ending-loaded : (inputs : Inputs) (next : Loaded → Work) → ((l : Loaded) → IsEnding (next l)) →
+    IsEnding (loaded inputs next)
+ending-loaded inputs next ending = λ file. ending-form bad_image (contents_of file) (described inputs next file)
+    (λ image text. ending-form-of bad_config (description image.symbols text)
+    (ruled (λ cfg. next (of_files file image text cfg)))
+    (λ cfg is. elim (rule_fault-or image.symbols text cfg is) [
+      | inl fault ↦ inl (bad_config fault.0, (fault.0, fault.1, refl))
+      | inr valid ↦ inr (valid, ending (of_files file image text cfg))
+    ]))
+
+ending-certified : (cert : List ℕ) (next : Certificate → Work) → ((c : Certificate) → IsEnding (next c)) →
+    IsEnding (certified cert next)
+ending-certified cert next ending = λ file. ending-form bad_cert (cert_at file) next ending
+
+each-loaded : (P : Outcome → Type 0) (inputs : Inputs) (next : Loaded → Work) →
+    ((fault : ImageFault) → P (bad_image fault)) → ((fault : ConfigFault) → P (bad_config fault)) →
+    ((l : Loaded) → IsEach P (next l)) → IsEach P (loaded inputs next)
+each-loaded P inputs next image_fault config_fault each = λ file. each-form P bad_image (contents_of file) _ image_fault
+    (λ image text. each-form P bad_config (description image.symbols text) _ config_fault
+    (λ cfg. (
+      λ o is. subst P (sym is.2) (config_fault is.0),
+      each (of_files file image text cfg),
+    )))
+
+each-certified : (P : Outcome → Type 0) (cert : List ℕ) (next : Certificate → Work) →
+    ((fault : CertFault) → P (bad_cert fault)) → ((c : Certificate) → IsEach P (next c)) → IsEach P (certified cert next)
+each-certified P cert next fault each = λ file. each-form P bad_cert (cert_at file) next fault each
+
+-- ---- each request
+
+-- no end has two outcomes
+pub single : IsToldOnce → (request : Option Request) → IsSingle (work_of request)
+single once None = single-only usage
+single once (Some (Check inputs cert)) = single-loaded inputs (checks cert)
+    (λ l. single-certified cert (λ c. Over (IsVerdict l c)) (λ c. verdict-once l c))
+single once (Some (Replay inputs trace)) = single-loaded inputs (replays trace)
+    (λ l script. single-form bad_trace (scripted script) _
+    (λ read. (
+      λ o p is is'. is.1 ∙ sym is'.1,
+      λ o is starts. is.0 starts,
+      λ starts. single-run once l.image l.config read.lines,
+    )))
+single once (Some (Upgrade cert)) = single-certified cert upgrades (λ c. single-only (upgraded c))
 
 -- each end of a decided request has an outcome
 pub ending : (request : Option Request) → IsDecided request → IsEnding (work_of request)
 ending None decided = ending-only usage
-ending (Some (Check inputs cert)) decided = λ image. ending-form bad_image (first_image image) _
-    (λ code config. ending-form not_built (first_config config) _
-    (λ _ text. ending-form bad_cert (first_letters text) _ (λ letters. ending-only (verdict (judged code letters)))))
+ending (Some (Check inputs cert)) decided = ending-loaded inputs (checks cert)
+    (λ l. ending-certified cert (λ c. Over (IsVerdict l c)) (λ c. verdict-some l c))
 ending (Some (Replay inputs trace)) decided = absurd decided
+ending (Some (Upgrade cert)) decided = ending-certified cert upgrades (λ c. ending-only (upgraded c))
 
 -- a status that an end of the work may have
 pub record IsOwn (status : Status) : Type 0 where
@@ -87,39 +152,45 @@ pub record IsOwn (status : Status) : Type 0 where
 abbrev pub IsOwnEnd : Outcome → Type 0
 IsOwnEnd o = IsOwn o.status
 
-pub own-verdict : (r : Result ℕ Refusal) → IsOwn (verdict r).status
-own-verdict (Ok count) = record { written = λ no. cc; remembered = λ no. cc; read = λ no. cc }
-own-verdict (Err (Table condition)) = record { written = λ no. cc; remembered = λ no. cc; read = λ no. cc }
-own-verdict (Err (Node condition address)) = record { written = λ no. cc; remembered = λ no. cc; read = λ no. cc }
+pub own-verdict : (l : Loaded) (cert : Certificate) (o : Outcome) → IsVerdict l cert o → IsOwnEnd o
+own-verdict l cert o (inl a) = subst IsOwnEnd (sym a.1)
+    (record { written = λ no. cc; remembered = λ no. cc; read = λ no. cc })
+own-verdict l cert o (inr a) = subst IsOwnEnd (sym a.2)
+    (record { written = λ no. cc; remembered = λ no. cc; read = λ no. cc })
 
 pub own-run : (clean : Bool) → IsOwn (run_status clean)
 own-run true = record { written = λ no. cc; remembered = λ no. cc; read = λ no. cc }
 own-run false = record { written = λ no. cc; remembered = λ no. cc; read = λ no. cc }
 
+pub own-upgraded : (cert : Certificate) → IsOwnEnd (upgraded cert)
+own-upgraded cert = record { written = λ no. cc; remembered = λ no. cc; read = λ no. cc }
+
+own-image : (fault : ImageFault) → IsOwnEnd (bad_image fault)
+own-image fault = record { written = λ no. cc; remembered = λ no. cc; read = λ no. cc }
+
+own-config : (fault : ConfigFault) → IsOwnEnd (bad_config fault)
+own-config fault = record { written = λ no. cc; remembered = λ no. cc; read = λ no. cc }
+
+own-cert : (fault : CertFault) → IsOwnEnd (bad_cert fault)
+own-cert fault = record { written = λ no. cc; remembered = λ no. cc; read = λ no. cc }
+
+own-trace : (fault : TraceFault) → IsOwnEnd (bad_trace fault)
+own-trace fault = record { written = λ no. cc; remembered = λ no. cc; read = λ no. cc }
+
 -- no end is a failed write, want of memory or a failed read
 own : (request : Option Request) → IsEach IsOwnEnd (work_of request)
 own None = λ o is. subst IsOwnEnd (sym is)
     (record { written = λ no. cc; remembered = λ no. cc; read = λ no. cc })
-own (Some (Check inputs cert)) = λ image. each-form IsOwnEnd bad_image (first_image image) _
-    (λ fault. record { written = λ no. cc; remembered = λ no. cc; read = λ no. cc })
-    (λ code config. each-form IsOwnEnd not_built (first_config config) _
-    (λ fault. record { written = λ no. cc; remembered = λ no. cc; read = λ no. cc })
-    (λ _ text. each-form IsOwnEnd bad_cert (first_letters text) _
-    (λ at. record { written = λ no. cc; remembered = λ no. cc; read = λ no. cc })
-    (λ letters o is. subst IsOwnEnd (sym is) (own-verdict (judged code letters)))))
-own (Some (Replay inputs trace)) = λ file. each-form IsOwnEnd bad_image (contents_of file) _
-    (λ fault. record { written = λ no. cc; remembered = λ no. cc; read = λ no. cc })
-    (λ image text. each-form IsOwnEnd bad_config (description image.symbols text) _
-    (λ fault. record { written = λ no. cc; remembered = λ no. cc; read = λ no. cc })
-    (λ cfg. (
-      λ o is. subst IsOwnEnd (sym is.2) (record { written = λ no. cc; remembered = λ no. cc; read = λ no. cc }),
-      λ script. each-form IsOwnEnd bad_trace (scripted script) _
-          (λ fault. record { written = λ no. cc; remembered = λ no. cc; read = λ no. cc })
-          (λ read. (
-            λ o is. subst IsOwnEnd (sym is.1) (record { written = λ no. cc; remembered = λ no. cc; read = λ no. cc }),
-            λ o is. subst IsOwn (sym is.2) (own-run is.0),
-          )),
+own (Some (Check inputs cert)) = each-loaded IsOwnEnd inputs (checks cert) own-image own-config
+    (λ l. each-certified IsOwnEnd cert (λ c. Over (IsVerdict l c)) own-cert (λ c. own-verdict l c))
+own (Some (Replay inputs trace)) = each-loaded IsOwnEnd inputs (replays trace) own-image own-config
+    (λ l script. each-form IsOwnEnd bad_trace (scripted script) _ own-trace
+    (λ read. (
+      λ o is. subst IsOwnEnd (sym is.1) (own-trace (NotAdmitted read.start)),
+      λ o is. subst IsOwn (sym is.2) (own-run is.0),
     )))
+own (Some (Upgrade cert)) = each-certified IsOwnEnd cert upgrades own-cert
+    (λ c o is. subst IsOwnEnd (sym is) (own-upgraded c))
 
 -- a status that a text goes with
 pub record IsSaid (status : Status) : Type 0 where
@@ -148,60 +219,137 @@ unfailed told request = Comes-each (λ (o : Outcome). o.status ≢ ReadFault) to
     (each-weaker IsOwnEnd (λ (o : Outcome). o.status ≢ ReadFault) (λ o is. is.read)
     (work_of request) (own request))
 
--- what an outcome that is Done says of a reading
-wants-done : (told : Option Held) (rose : List ℕ → Type 0) (name : List ℕ) (limit : ℕ) (next : List ℕ → Work)
-    (o : Outcome) → Comes told rose (Wants name limit next) o → o.status ≡ Done →
-    (file : List ℕ) × IsWhole told name file × Comes told rose (next file) o
-wants-done told rose name limit next o (inl fault) done =
-    let no = ap (λ (p : Outcome). p.status) fault.1 in absurd (cc)
-wants-done told rose name limit next o (inr (inl long)) done =
-    let no = ap (λ (p : Outcome). p.status) long.1 in absurd (cc)
-wants-done told rose name limit next o (inr (inr read)) done = (read.file, read.whole, read.follows)
+-- ---- what an accepted or a refused certificate says
 
--- and of a form
-form-done : {A E : Type 0} (told : Option Held) (rose : List ℕ → Type 0) (bad : E → Outcome) (r : Result A E)
-    (next : A → Work) → ((e : E) → (bad e).status ≡ Done → ⊥) → (o : Outcome) →
-    Comes told rose (form bad r next) o → o.status ≡ Done → (a : A) × (r ≡ Ok a) × Comes told rose (next a) o
-form-done told rose bad (Ok a) next b o is done = (a, refl, is)
-form-done told rose bad (Err e) next b o is done = absurd (b e (subst (λ (p : Outcome). p.status ≡ Done) is done))
+-- a status that only a mode's own end has
+pub record IsJudged (status : Status) : Type 0 where
+  pub read : status ≢ ReadFault
+  pub small : status ≢ TooLarge
+  pub image : status ≢ BadImage
+  pub config : status ≢ BadConfig
+  pub cert : status ≢ BadCert
 
-verdict-done : (r : Result ℕ Refusal) → (verdict r).status ≡ Done → (count : ℕ) × (r ≡ Ok count)
-verdict-done (Ok count) done = (count, refl)
-verdict-done (Err (Table condition)) done = absurd (cc)
-verdict-done (Err (Node condition address)) done = absurd (cc)
-
-safe_image : (told : Option Held) (image file : List ℕ) (code : Code) → IsWhole told image file →
-    first_image file ≡ Ok code → StaysSafe code → IsSafeImage told image
-safe_image None image file code whole is safe = tt
-safe_image (Some held) image file code whole is safe = record {
-  file = file;
-  code = code;
-  is_held = whole;
-  is_image = is;
-  safe = safe;
+judged-done : (status : Status) → status ≡ Done → IsJudged status
+judged-done status is = record {
+  read = λ no. cc;
+  small = λ no. cc;
+  image = λ no. cc;
+  config = λ no. cc;
+  cert = λ no. cc;
 }
 
--- the accepted code stays safe
-pub accepted-safe : (told : Option Held) (rose : List ℕ → Type 0) (request : Option Request) (o : Outcome) →
-    Comes told rose (work_of request) o → o.status ≡ Done → AcceptsSafe told request
-accepted-safe told rose None o is done = tt
-accepted-safe told rose (Some (Check inputs cert)) o is done =
-    let after_letters : Code → List ℕ → Work = λ code letters. Only (verdict (judged code letters)) in
-    let after_code : Code → Work = λ code. first_configured inputs.config (lettered cert (after_letters code)) in
-    let image = wants-done told rose inputs.image IMAGE_LIMIT
-    (λ file. form bad_image (first_image file) after_code) o is done in
-    let code = form-done told rose bad_image (first_image image.0) after_code (λ fault no. cc) o image.2 done in
-    let config = wants-done told rose inputs.config CONFIG_LIMIT
-    (λ file. form not_built (first_config file) (λ _. lettered cert (after_letters code.0))) o code.2 done in
-    let empty = form-done told rose not_built (first_config config.0) (λ _. lettered cert (after_letters code.0))
-    (λ fault no. cc) o config.2 done in
-    let text = wants-done told rose cert CERT_LIMIT
-    (λ file. form bad_cert (first_letters file) (after_letters code.0)) o empty.2 done in
-    let letters = form-done told rose bad_cert (first_letters text.0) (after_letters code.0) (λ at no. cc) o text.2 done
-    in
-    let accepted = verdict-done (judged code.0 letters.0) (subst (λ (p : Outcome). p.status ≡ Done) letters.2 done) in
-    safe_image told inputs.image image.0 code.0 image.1 code.1 (judged-safe code.0 letters.0 accepted.0 accepted.1)
-accepted-safe told rose (Some (Replay inputs trace)) o is done = tt
+judged-refused : (status : Status) → status ≡ Refused → IsJudged status
+judged-refused status is = record {
+  read = λ no. cc;
+  small = λ no. cc;
+  image = λ no. cc;
+  config = λ no. cc;
+  cert = λ no. cc;
+}
+
+-- the file was read
+wants-judged : (told : Option Held) (rose : List ℕ → Type 0) (name : List ℕ) (limit : ℕ) (next : List ℕ → Work)
+    (o : Outcome) → Comes told rose (Wants name limit next) o → IsJudged o.status →
+    IsRead told limit name (λ bytes. Comes told rose (next bytes)) o
+wants-judged told rose name limit next o (inl fault) judged = absurd (judged.read (ap (λ (p : Outcome). p.status) fault.1))
+wants-judged told rose name limit next o (inr (inl long)) judged =
+    absurd (judged.small (ap (λ (p : Outcome). p.status) long.1))
+wants-judged told rose name limit next o (inr (inr read)) judged = read
+
+-- it has its form
+form-judged : {A E : Type 0} (told : Option Held) (rose : List ℕ → Type 0) (bad : E → Outcome) (r : Result A E)
+    (next : A → Work) (o : Outcome) → ((e : E) → o.status ≡ (bad e).status → ⊥) → Comes told rose (form bad r next) o →
+    (a : A) × (r ≡ Ok a) × Comes told rose (next a) o
+form-judged told rose bad (Ok a) next o b is = (a, refl, is)
+form-judged told rose bad (Err e) next o b is = absurd (b e (ap (λ (p : Outcome). p.status) is))
+
+-- the description keeps its rules
+rules-judged : (told : Option Held) (rose : List ℕ → Type 0) (cfg : Description) (next : Work) (o : Outcome) →
+    Comes told rose (Ruled (IsBrokenRule cfg) (IsValid cfg) next) o → IsJudged o.status →
+    IsValid cfg × Comes told rose next o
+rules-judged told rose cfg next o (inl broken) judged =
+    absurd (judged.config (ap (λ (p : Outcome). p.status) broken.2))
+rules-judged told rose cfg next o (inr rest) judged = rest
+
+-- image and description were loaded
+loaded-judged : (told : Option Held) (rose : List ℕ → Type 0) (inputs : Inputs) (next : Loaded → Work) (o : Outcome) →
+    Comes told rose (loaded inputs next) o → IsJudged o.status →
+    (l : Loaded) × AreLoaded told inputs l × Comes told rose (next l) o
+loaded-judged told rose inputs next o comes judged =
+    let file = wants-judged told rose inputs.image IMAGE_LIMIT
+    (λ file. form bad_image (contents_of file) (described inputs next file)) o comes judged in
+    let image = form-judged told rose bad_image (contents_of file.file) (described inputs next file.file) o
+    (λ e. judged.image) file.follows in
+    let then : List ℕ → Description → Work = λ text cfg. next (of_files file.file image.0 text cfg) in
+    let text = wants-judged told rose inputs.config CONFIG_LIMIT
+    (λ text. form bad_config (description image.0.symbols text) (ruled (then text))) o image.2 judged in
+    let cfg = form-judged told rose bad_config (description image.0.symbols text.file) (ruled (then text.file)) o
+    (λ e. judged.config) text.follows in
+    let rest = rules-judged told rose cfg.0 (then text.file cfg.0) o cfg.2 judged in (
+      of_files file.file image.0 text.file cfg.0,
+      record {
+        file = file.file;
+        file_whole = file.whole;
+        file_within = file.within;
+        is_image = image.1;
+        text = text.file;
+        text_whole = text.whole;
+        text_within = text.within;
+        is_description = cfg.1;
+        valid = rest.0;
+        digests = refl;
+      },
+      rest.1,
+    )
+
+-- the certificate was read
+certified-judged : (told : Option Held) (rose : List ℕ → Type 0) (cert : List ℕ) (next : Certificate → Work)
+    (o : Outcome) → Comes told rose (certified cert next) o → IsJudged o.status →
+    (c : Certificate) × IsCertificateOf told cert c × Comes told rose (next c) o
+certified-judged told rose cert next o comes judged =
+    let file = wants-judged told rose cert CERT_LIMIT (λ file. form bad_cert (cert_at file) next) o comes judged in
+    let read = form-judged told rose bad_cert (cert_at file.file) next o (λ e. judged.cert) file.follows in (
+      read.0,
+      record {
+        file = file.file;
+        whole = file.whole;
+        within = file.within;
+        is_certificate = read.1;
+      },
+      read.2,
+    )
+
+-- what a verdict with this status says, of the files of a check
+pub checked : (told : Option Held) (rose : List ℕ → Type 0) (request : Option Request) (o : Outcome)
+    (P : Loaded → Certificate → Type 0) → IsJudged o.status →
+    ((l : Loaded) (c : Certificate) → IsVerdict l c o → P l c) → Comes told rose (work_of request) o →
+    OfCheck told request P
+checked None rose request o P judged says comes = tt
+checked (Some held) rose None o P judged says comes = tt
+checked (Some held) rose (Some (Check inputs cert)) o P judged says comes =
+    let l = loaded-judged (Some held) rose inputs (checks cert) o comes judged in
+    let c = certified-judged (Some held) rose cert (λ c. Over (IsVerdict l.0 c)) o l.2 judged in record {
+      loaded = l.0;
+      certificate = c.0;
+      are_loaded = l.1;
+      is_certificate = c.1;
+      holds = says l.0 c.0 c.2;
+    }
+checked (Some held) rose (Some (Replay inputs trace)) o P judged says comes = tt
+checked (Some held) rose (Some (Upgrade cert)) o P judged says comes = tt
+
+-- an accepted certificate is certified
+pub checked-done : (told : Option Held) (rose : List ℕ → Type 0) (request : Option Request) (o : Outcome) →
+    Comes told rose (work_of request) o → o.status ≡ Done → OfCheck told request IsCertifiedFor
+checked-done told rose request o comes done =
+    checked told rose request o IsCertifiedFor (judged-done o.status done) (λ l c is. verdict-done l c o is done) comes
+
+-- a refused one isn't
+pub checked-refused : (told : Option Held) (rose : List ℕ → Type 0) (request : Option Request) (o : Outcome) →
+    Comes told rose (work_of request) o → o.status ≡ Refused → OfCheck told request IsUncertifiedFor
+checked-refused told rose request o comes refuses =
+    checked told rose request o IsUncertifiedFor (judged-refused o.status refuses)
+    (λ l c is. verdict-refused l c o is refuses) comes
 
 -- how an outcome is told, from what was written
 pub tells : (o : Outcome) (status : Status) (before after : SinkState) → o.status ≢ WriteFault →

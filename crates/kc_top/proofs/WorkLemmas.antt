@@ -81,6 +81,12 @@ pub ending-form : {A E : Type 0} (bad : E → Outcome) (r : Result A E) (next : 
 ending-form bad (Ok a) next ending = ending a
 ending-form bad (Err e) next ending = ending-only (bad e)
 
+-- the same, where it is said what the form is
+pub ending-form-of : {A E : Type 0} (bad : E → Outcome) (r : Result A E) (next : A → Work) →
+    ((a : A) → r ≡ Ok a → IsEnding (next a)) → IsEnding (form bad r next)
+ending-form-of bad (Ok a) next ending = ending a refl
+ending-form-of bad (Err e) next ending = ending-only (bad e)
+
 longer : (held : Held) (name bytes : List ℕ) (limit : ℕ) → held name ≡ Some bytes → IsLonger (Some held) name limit →
     limit < length bytes
 longer held name bytes limit is long =

@@ -2,11 +2,6 @@ pub mod Status
 pub mod Words
 pub mod RequestSteps
 pub mod Lines
-pub mod FirstForm
-pub mod FormSteps
-pub mod Straight
-pub mod Letters
-pub mod Machine
 pub mod Work
 pub mod Output
 pub mod OutputSteps

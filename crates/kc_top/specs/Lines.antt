@@ -1,5 +1,6 @@
 -- The lines that the program prints, this project's own. Each ends with one byte 0A.
-use Rattle.std.specs.Prelude.{ℕ, ◌-◌, List, ◌++◌, length, replicate, false, codes, decimal}
+use Rattle.std.specs.Prelude.{ℕ, ◌-◌, List, [], ◌++◌, length, replicate, false, codes, decimal, ◌==◌, if◌then◌else◌}
+use Rattle.std.specs.Prelude.{Option, Some, None}
 use Rattle.std.specs.Fmt.{digits}
 use Rattle.kc_image.specs.declared.fault.ImageFault.{ImageFault}
 use Rattle.kc_image.specs.declared.fault.ImageKind.{ImageKind}
@@ -10,6 +11,19 @@ use Rattle.kc_config.specs.declared.fault.ConfigFault.{ConfigFault}
 use Rattle.kc_config.specs.declared.fault.ConfigFault.TheVariants.{Syntax, Missing, WrongKind, OutOfRange, UnknownKey}
 use Rattle.kc_config.specs.declared.fault.ConfigFault.TheVariants.{NoSymbol, Regions, GuardMissing}
 use Rattle.kc_config.specs.declared.fault.ConfigFault.TheVariants.{NoMemory as NoConfigMemory}
+use Rattle.kc_regions.specs.Description.{Description}
+use Rattle.kc_regions.specs.Lookup.{gate_of}
+use Rattle.kc_state.specs.AbsEvents.{debug, nmi, page_fault, machine_check, is_gate}
+use Rattle.kc_state.specs.declared.site.Site.{Site}
+use Rattle.kc_cert.specs.Placed.{is_maskable}
+use Rattle.kc_cert.specs.declared.refusal.Event.{Event}
+use Rattle.kc_cert.specs.declared.refusal.Event.TheVariants.{Vector, Syscall}
+use Rattle.kc_cert.specs.declared.refusal.Refusal.{Refusal}
+use Rattle.kc_cert.specs.declared.refusal.Spot.{Spot}
+use Rattle.kc_cert.specs.declared.refusal.Spot.TheVariants as spot
+use Rattle.kc_certfields.specs.declared.fault.CertFault.{CertFault}
+use Rattle.kc_certfields.specs.declared.fault.CertKind.{CertKind}
+use Rattle.kc_certfields.specs.declared.fault.CertKind.TheVariants as cert
 use Rattle.kc_trace.specs.declared.fault.TraceFault.{TraceFault}
 use Rattle.kc_trace.specs.declared.fault.TraceFault.TheVariants.{BadLine, BadNumber, NotAdmitted}
 use Rattle.kc_trace.specs.declared.fault.TraceFault.TheVariants.{NoMemory as NoTraceMemory}
@@ -21,7 +35,7 @@ address_text a = codes "0x" ++ replicate (16 - length (digits 16 false a)) 48 ++
 abbrev pub usage_line : List ℕ
 usage_line =
     codes
-    "usage: entrycert check IMAGE CONFIG CERT, find IMAGE CONFIG, explain IMAGE CONFIG [CERT], replay IMAGE CONFIG TRACE, gen SEED SIZE\n"
+    "usage: entrycert check IMAGE CONFIG CERT, find IMAGE CONFIG, explain IMAGE CONFIG [CERT], replay IMAGE CONFIG TRACE, gen SEED SIZE, upgrade CERT\n"
 
 abbrev pub read_fault_line : List ℕ → List ℕ
 read_fault_line name = codes "read fault " ++ name ++ codes "\n"
@@ -72,9 +86,20 @@ abbrev pub bad_config_line : ConfigFault → List ℕ
 bad_config_line fault =
     codes "bad config " ++ config_kind fault ++ codes " " ++ config_path fault ++ codes "\n"
 
--- a configuration that isn't in the first form
-abbrev pub not_built_line : List ℕ
-not_built_line = codes "bad config 10 NotBuilt -\n"
+-- the number and the name of a kind of fault in a certificate; the last one is said of no file
+abbrev pub cert_kind : CertKind → List ℕ
+cert_kind cert.BadMagic = codes "1 BadMagic"
+cert_kind cert.Version = codes "2 Version"
+cert_kind cert.Short = codes "3 Short"
+cert_kind cert.Trailing = codes "4 Trailing"
+cert_kind cert.Order = codes "5 Order"
+cert_kind cert.Range = codes "6 Range"
+cert_kind cert.TooMany = codes "7 TooMany"
+cert_kind cert.NoMemory = codes "8 NoMemory"
+
+abbrev pub bad_cert_line : CertFault → List ℕ
+bad_cert_line fault =
+    codes "bad certificate " ++ cert_kind fault.kind ++ codes " at " ++ decimal fault.at ++ codes "\n"
 
 -- the number and the name of a kind of fault in a trace; the last one is said of no text
 abbrev pub trace_kind : TraceFault → List ℕ
@@ -93,17 +118,42 @@ fault_line NoTraceMemory = 0
 abbrev pub bad_trace_line : TraceFault → List ℕ
 bad_trace_line fault = codes "bad trace " ++ trace_kind fault ++ codes " line " ++ decimal (fault_line fault) ++ codes "\n"
 
-abbrev pub bad_cert_line : ℕ → List ℕ
-bad_cert_line at = codes "bad certificate 6 Range at " ++ decimal at ++ codes "\n"
+-- ---- what `check` says of a certificate
 
 abbrev pub accepted_line : ℕ → ℕ → List ℕ
 accepted_line contexts nodes =
     codes "accepted contexts=" ++ decimal contexts ++ codes " nodes=" ++ decimal nodes ++ codes "\n"
 
-abbrev pub refused_table_line : ℕ → List ℕ
-refused_table_line condition = codes "refused C" ++ decimal condition ++ codes "\n"
+-- the event of a vector: a device's interrupt where the gate is for one, and else an exception or an INT of user code
+abbrev pub vector_text : Description → ℕ → List ℕ
+vector_text d v =
+    if v == nmi then codes "nmi"
+    else if v == debug then codes "debug"
+    else if v == machine_check then codes "check"
+    else if v == page_fault then codes "fault"
+    else if is_gate is_maskable (gate_of d.gates v) then codes "irq " ++ decimal v
+    else codes "trap " ++ decimal v
 
-abbrev pub refused_node_line : ℕ → ℕ → ℕ → List ℕ
-refused_node_line condition context address =
-    codes "refused C" ++ decimal condition ++ codes " context " ++ decimal context ++ codes " at " ++ address_text
-    address ++ codes "\n"
+abbrev pub event_text : Description → Event → List ℕ
+event_text d (Vector v) = vector_text d v
+event_text d Syscall = codes "syscall"
+
+-- the site of a node: an instruction, or the body of the handler that is called there
+abbrev pub site_text : Site → List ℕ
+site_text site = address_text site.at ++ (if site.inside then codes " body" else [])
+
+-- where a condition fails; of the table as a whole nothing is said
+abbrev pub spot_text : Spot → List ℕ
+spot_text spot.Table = []
+spot_text spot.User = codes " user"
+spot_text (spot.Context i) = codes " context " ++ decimal i
+spot_text (spot.Node i site) = codes " context " ++ decimal i ++ codes " at " ++ site_text site
+
+-- at which event it fails, where it does at one
+abbrev pub at_event_text : Description → Option Event → List ℕ
+at_event_text d (Some event) = codes " event " ++ event_text d event
+at_event_text d None = []
+
+abbrev pub refused_line : Description → Refusal → List ℕ
+refused_line d r =
+    codes "refused C" ++ decimal r.condition.0 ++ spot_text r.spot ++ at_event_text d r.event ++ codes "\n"

@@ -1,7 +1,7 @@
 -- What the program answers and writes: one definition for all that it does, this project's own.
-use Rattle.std.specs.Prelude.{◌≡◌, ◌≢◌, ℕ, ◌≤◌, Bool, true, false, List, length, Option, Some, None, Result, Ok, Err}
-use Rattle.std.specs.Prelude.{◌+◌, ⊤}
-use Rattle.kc_io.specs.Files.{Held}
+use Rattle.std.specs.Prelude.{◌≡◌, ◌≢◌, ℕ, ◌≤◌, Bool, true, false, List, length, Option, Some, None, Ok, ◌+◌, ◌⊎◌, ⊤}
+use Rattle.sha2.specs.Sha256.{sha256}
+use Rattle.kc_io.specs.Files.{Held, IsWhole}
 use Rattle.kc_io.specs.Sink.{SinkState, Writes, Refuses}
 use Rattle.kc_image.specs.declared.fault.ImageFault.{ImageFault}
 use Rattle.kc_image.specs.Image.{Contents}
@@ -18,18 +18,22 @@ use Rattle.kc_trace.specs.declared.line.Line.{Line}
 use Rattle.kc_trace.specs.Script.{scripted}
 use Rattle.kc_replay.specs.Turns.{first_set}
 use Rattle.kc_replay.specs.Told.{IsReplayed}
+use Rattle.kc_cert.specs.Certified.{IsCertified}
+use Rattle.kc_cert.specs.FirstRefusal.{IsFirstRefusal}
+use Rattle.kc_cert.specs.declared.certificate.Certificate.{Certificate}
+use Rattle.kc_cert.specs.declared.certificate.Digests.{Digests}
+use Rattle.kc_cert.specs.declared.refusal.Refusal.{Refusal}
+use Rattle.kc_certfields.specs.declared.fault.CertFault.{CertFault}
+use Rattle.kc_certform.specs.CertBytes.{CertBytes2}
+use Rattle.kc_certfmt.specs.Reading.{cert_at}
+use Rattle.kc_top.specs.declared.load.Loaded.{Loaded}
 use Rattle.kc_top.specs.declared.status.Status.{Status}
 use Rattle.kc_top.specs.declared.status.Status.TheVariants.{Done, Refused, Usage, BadImage, BadConfig, BadCert}
 use Rattle.kc_top.specs.declared.status.Status.TheVariants.{BadTrace, WriteFault}
-use Rattle.kc_top.specs.declared.letters.Refusal.{Refusal}
-use Rattle.kc_top.specs.declared.letters.Refusal.TheVariants.{Table, Node}
 use Rattle.kc_top.specs.declared.outcome.Outcome.{Outcome}
-use Rattle.kc_top.specs.Words.{Inputs, Request, Check, Replay, request_of}
-use Rattle.kc_top.specs.Lines.{usage_line, bad_image_line, bad_config_line, not_built_line, bad_cert_line}
-use Rattle.kc_top.specs.Lines.{bad_trace_line, accepted_line, refused_table_line, refused_node_line}
-use Rattle.kc_top.specs.FirstForm.{Code, first_image, first_config, first_letters}
-use Rattle.kc_top.specs.Letters.{judged}
-use Rattle.kc_top.specs.Machine.{StaysSafe}
+use Rattle.kc_top.specs.Words.{Inputs, Request, Check, Replay, Upgrade, request_of}
+use Rattle.kc_top.specs.Lines.{usage_line, bad_image_line, bad_config_line, bad_cert_line, bad_trace_line}
+use Rattle.kc_top.specs.Lines.{accepted_line, refused_line}
 use Rattle.kc_top.specs.Work.{Work, Over, Wants, Ruled, Only, form, Comes, AreHeld}
 
 -- the most bytes of each kind of file
@@ -54,36 +58,11 @@ bad_image fault = record { status = BadImage; text = bad_image_line fault }
 abbrev pub bad_config : ConfigFault → Outcome
 bad_config fault = record { status = BadConfig; text = bad_config_line fault }
 
-abbrev pub not_built : Unit {0} → Outcome
-not_built fault = record { status = BadConfig; text = not_built_line }
-
-abbrev pub bad_cert : ℕ → Outcome
-bad_cert at = record { status = BadCert; text = bad_cert_line at }
+abbrev pub bad_cert : CertFault → Outcome
+bad_cert fault = record { status = BadCert; text = bad_cert_line fault }
 
 abbrev pub bad_trace : TraceFault → Outcome
 bad_trace fault = record { status = BadTrace; text = bad_trace_line fault }
-
--- ---- `check` on the first form of its files
-
--- one context, and a node for each instruction
-abbrev pub verdict : Result ℕ Refusal → Outcome
-verdict (Ok count) = record { status = Done; text = accepted_line 1 count }
-verdict (Err (Table condition)) = record { status = Refused; text = refused_table_line condition }
-verdict (Err (Node condition address)) = record { status = Refused; text = refused_node_line condition 0 address }
-
--- the letters, and then what follows of them
-abbrev pub lettered : List ℕ → (List ℕ → Work) → Work
-lettered cert next = Wants cert CERT_LIMIT (λ file. form bad_cert (first_letters file) next)
-
--- the empty configuration, and then what follows
-abbrev pub first_configured : List ℕ → Work → Work
-first_configured config next = Wants config CONFIG_LIMIT (λ file. form not_built (first_config file) (λ _. next))
-
--- the image, and then the configuration
-abbrev pub first_loaded : Inputs → (Code → Work) → Work
-first_loaded inputs next =
-    Wants inputs.image IMAGE_LIMIT (λ file. form bad_image (first_image file)
-    (λ code. first_configured inputs.config (next code)))
 
 -- ---- images, descriptions and traces
 
@@ -92,16 +71,27 @@ abbrev pub IsBrokenRule : Description → Outcome → Type 0
 IsBrokenRule cfg o = (fault : ConfigFault) × IsRuleFault cfg fault × (o ≡ bad_config fault)
 
 -- the description, whose addresses may name the image's symbols: what its tables say, then the rules between its parts
-abbrev pub configured : List ℕ → Contents → (Description → Work) → Work
+abbrev pub configured : List ℕ → Contents → (List ℕ → Description → Work) → Work
 configured config image next =
     Wants config CONFIG_LIMIT (λ text. form bad_config (description image.symbols text)
-    (λ cfg. Ruled (IsBrokenRule cfg) (IsValid cfg) (next cfg)))
+    (λ cfg. Ruled (IsBrokenRule cfg) (IsValid cfg) (next text cfg)))
+
+-- the SHA-256 of the two files' bytes (FIPS 180-4)
+abbrev pub digests_of : List ℕ → List ℕ → Digests
+digests_of image config = record { image = sha256 image; config = sha256 config }
+
+abbrev pub of_files : List ℕ → Contents → List ℕ → Description → Loaded
+of_files file image text cfg = record { image = image; config = cfg; digests = digests_of file text }
 
 -- the image, and then the description
-abbrev pub loaded : Inputs → (Contents → Description → Work) → Work
+abbrev pub loaded : Inputs → (Loaded → Work) → Work
 loaded inputs next =
     Wants inputs.image IMAGE_LIMIT (λ file. form bad_image (contents_of file)
-    (λ image. configured inputs.config image (next image)))
+    (λ image. configured inputs.config image (λ text cfg. next (of_files file image text cfg))))
+
+-- the certificate, in either version
+abbrev pub certified : List ℕ → (Certificate → Work) → Work
+certified cert next = Wants cert CERT_LIMIT (λ file. form bad_cert (cert_at file) next)
 
 -- the description's machine may not start as the first lines say
 abbrev pub IsNotStarted : Description → Gathered → Outcome → Type 0
@@ -122,15 +112,44 @@ run_status false = Refused
 abbrev pub IsRun : Contents → Description → List Line → Outcome → Type 0
 IsRun image cfg lines o = (clean : Bool) × IsReplayed cfg image lines o.text clean × (o.status ≡ run_status clean)
 
+-- ---- certificates
+
+-- C1 to C17 hold, each a fact of its own
+abbrev pub IsCertifiedFor : Loaded → Certificate → Type 0
+IsCertifiedFor l cert = IsCertified l.image l.config l.digests cert
+
+abbrev pub IsUncertifiedFor : Loaded → Certificate → Type 0
+IsUncertifiedFor l cert = ¬ IsCertifiedFor l cert
+
+-- the first condition that fails, and where
+abbrev pub IsRefusedFor : Loaded → Certificate → Refusal → Type 0
+IsRefusedFor l cert r = IsFirstRefusal l.image l.config l.digests cert r
+
+abbrev pub accepted : ℕ → ℕ → Outcome
+accepted contexts nodes = record { status = Done; text = accepted_line contexts nodes }
+
+abbrev pub refused : Description → Refusal → Outcome
+refused cfg r = record { status = Refused; text = refused_line cfg r }
+
+-- the certificate is accepted where it is certified for what was loaded, and else its first refusal is said
+abbrev pub IsVerdict : Loaded → Certificate → Outcome → Type 0
+IsVerdict l cert o =
+    (IsCertifiedFor l cert × (o ≡ accepted (length cert.contexts) (length cert.nodes)))
+    ⊎ ((r : Refusal) × IsRefusedFor l cert r × (o ≡ refused l.config r))
+
+-- the same certificate in version 2
+abbrev pub upgraded : Certificate → Outcome
+upgraded cert = record { status = Done; text = CertBytes2 cert }
+
 -- ---- each request
 
 -- the files that a request reads, in the order of work, and what follows from them
 abbrev pub work_of : Option Request → Work
 work_of None = Only usage
-work_of (Some (Check inputs cert)) =
-    first_loaded inputs (λ code. lettered cert (λ letters. Only (verdict (judged code letters))))
+work_of (Some (Check inputs cert)) = loaded inputs (λ l. certified cert (λ c. Over (IsVerdict l c)))
 work_of (Some (Replay inputs trace)) =
-    loaded inputs (λ image cfg. scripted_by cfg trace (λ lines. Over (IsRun image cfg lines)))
+    loaded inputs (λ l. scripted_by l.config trace (λ lines. Over (IsRun l.image l.config lines)))
+work_of (Some (Upgrade cert)) = certified cert (λ c. Only (upgraded c))
 
 -- the outcome of these words
 abbrev pub IsDue : Option Held → (List ℕ → Type 0) → List (List ℕ) → Outcome → Type 0
@@ -142,24 +161,43 @@ pub record Tells (o : Outcome) (status : Status) (before after : SinkState) : Ty
   pub all : status ≢ WriteFault → (status ≡ o.status) × Writes before after o.text
   pub part : status ≡ WriteFault → Refuses before after o.text
 
--- the named file holds an image whose code stays safe
-pub record HoldsSafeImage (held : Held) (image : List ℕ) : Type 0 where
+-- ---- what an accepted certificate says
+
+-- the image, the description and their digests are what the named files say
+pub record AreLoaded (told : Option Held) (inputs : Inputs) (l : Loaded) : Type 0 where
   pub file : List ℕ
-  pub code : Code
-  pub is_held : held image ≡ Some file
-  pub is_image : first_image file ≡ Ok code
-  pub safe : StaysSafe code
+  pub file_whole : IsWhole told inputs.image file
+  pub file_within : length file ≤ IMAGE_LIMIT
+  pub is_image : contents_of file ≡ Ok l.image
+  pub text : List ℕ
+  pub text_whole : IsWhole told inputs.config text
+  pub text_within : length text ≤ CONFIG_LIMIT
+  pub is_description : description l.image.symbols text ≡ Ok l.config
+  pub valid : IsValid l.config
+  pub digests : l.digests ≡ digests_of file text
 
--- the same, where the files report what they hold
-abbrev pub IsSafeImage : Option Held → List ℕ → Type 0
-IsSafeImage None image = ⊤
-IsSafeImage (Some held) image = HoldsSafeImage held image
+-- the certificate is what the named file spells
+pub record IsCertificateOf (told : Option Held) (name : List ℕ) (cert : Certificate) : Type 0 where
+  pub file : List ℕ
+  pub whole : IsWhole told name file
+  pub within : length file ≤ CERT_LIMIT
+  pub is_certificate : cert_at file ≡ Ok cert
 
--- the same of the image of a request; a replay promises nothing of other runs
-abbrev pub AcceptsSafe : Option Held → Option Request → Type 0
-AcceptsSafe told None = ⊤
-AcceptsSafe told (Some (Check inputs cert)) = IsSafeImage told inputs.image
-AcceptsSafe told (Some (Replay inputs trace)) = ⊤
+-- the named files hold an image, a description and a certificate in their forms and limits, of which this holds
+pub record HoldsInputs (held : Held) (inputs : Inputs) (cert : List ℕ) (P : Loaded → Certificate → Type 0) : Type 0 where
+  pub loaded : Loaded
+  pub certificate : Certificate
+  pub are_loaded : AreLoaded (Some held) inputs loaded
+  pub is_certificate : IsCertificateOf (Some held) cert certificate
+  pub holds : P loaded certificate
+
+-- the same of the files of a check, where the files report what they hold
+abbrev pub OfCheck : Option Held → Option Request → (Loaded → Certificate → Type 0) → Type 0
+OfCheck None request P = ⊤
+OfCheck (Some held) None P = ⊤
+OfCheck (Some held) (Some (Check inputs cert)) P = HoldsInputs held inputs cert P
+OfCheck (Some held) (Some (Replay inputs trace)) P = ⊤
+OfCheck (Some held) (Some (Upgrade cert)) P = ⊤
 
 -- the files report what they hold, and hold each file that the request wants
 abbrev pub HoldsFiles : Option Held → Option Request → Type 0
@@ -171,6 +209,7 @@ abbrev pub IsDecided : Option Request → Type 0
 IsDecided None = ⊤
 IsDecided (Some (Check inputs cert)) = ⊤
 IsDecided (Some (Replay inputs trace)) = ⊥
+IsDecided (Some (Upgrade cert)) = ⊤
 
 -- a text has room after the bytes that are written already
 abbrev pub HasRoomFor : Option (List ℕ) → Option ℕ → List ℕ → Type 0

@@ -5,20 +5,19 @@ use Rattle.kc_io.specs.Sink.{SinkState}
 use Rattle.kc_image.specs.Image.{Contents}
 use Rattle.kc_image.specs.ImageFile.{contents_of}
 use Rattle.kc_regions.specs.Description.{Description}
-use Rattle.kc_regions.specs.Valid.{IsValid}
-use Rattle.kc_config.specs.Reading.{description, IsFirstFault}
+use Rattle.kc_config.specs.Reading.{IsFirstFault}
 use Rattle.kc_trace.specs.declared.fault.TraceFault.TheVariants.{NoMemory as NoTraceMemory}
 use Rattle.kc_trace.specs.declared.line.Line.{Line}
 use Rattle.kc_replay.specs.Script.{Reads}
 use Rattle.kc_top.specs.declared.status.Status.{Status}
 use Rattle.kc_top.specs.declared.outcome.Outcome.{Outcome}
 use Rattle.kc_top.specs.declared.stop.Stop.{Stop}
-use Rattle.kc_top.specs.declared.stop.Stop.TheVariants.{ReadFault, TooLarge, BadImage, BadConfig, NotBuilt, BadCert}
+use Rattle.kc_top.specs.declared.stop.Stop.TheVariants.{ReadFault, TooLarge, BadImage, BadConfig, BadCert}
 use Rattle.kc_top.specs.declared.stop.Stop.TheVariants.{BadTrace, NoMemory}
 use Rattle.kc_top.specs.Words.{Inputs}
 use Rattle.kc_top.specs.Work.{Work, Over, Comes, read_fault, too_large}
-use Rattle.kc_top.specs.Output.{IMAGE_LIMIT, CONFIG_LIMIT, TRACE_LIMIT, bad_image, bad_config, not_built, bad_cert}
-use Rattle.kc_top.specs.Output.{bad_trace, loaded, scripted_by, Tells}
+use Rattle.kc_top.specs.Output.{TRACE_LIMIT, bad_image, bad_config, bad_cert, bad_trace, loaded, certified, scripted_by}
+use Rattle.kc_top.specs.Output.{Tells}
 
 -- the outcome of a cause; want of memory has none
 abbrev pub outcome_of : Stop → Option Outcome
@@ -26,8 +25,7 @@ outcome_of (ReadFault name) = Some (read_fault name.now)
 outcome_of (TooLarge name) = Some (too_large name.now)
 outcome_of (BadImage fault) = Some (bad_image fault)
 outcome_of (BadConfig fault) = Some (bad_config fault)
-outcome_of NotBuilt = Some (not_built tt)
-outcome_of (BadCert at) = Some (bad_cert at)
+outcome_of (BadCert fault) = Some (bad_cert fault)
 outcome_of (BadTrace fault) = Some (bad_trace fault)
 outcome_of NoMemory = None
 
@@ -56,18 +54,6 @@ IsNoTrace cfg text (BadTrace fault) = (fault ≢ NoTraceMemory) × Reads cfg tex
 IsNoTrace cfg text NoMemory = ⊤
 IsNoTrace cfg text _ = ⊥
 
--- what the files of a mode say: the image and the description
-pub record AreLoaded (told : Option Held) (inputs : Inputs) (image : Contents) (cfg : Description) : Type 0 where
-  pub file : List ℕ
-  pub file_whole : IsWhole told inputs.image file
-  pub file_within : length file ≤ IMAGE_LIMIT
-  pub is_image : contents_of file ≡ Ok image
-  pub text : List ℕ
-  pub text_whole : IsWhole told inputs.config text
-  pub text_within : length text ≤ CONFIG_LIMIT
-  pub is_description : description image.symbols text ≡ Ok cfg
-  pub valid : IsValid cfg
-
 -- the lines that a trace's file says
 pub record IsScripted (told : Option Held) (cfg : Description) (trace : List ℕ) (lines : List Line) : Type 0 where
   pub text : List ℕ
@@ -81,12 +67,16 @@ Never = Over (λ o. ⊥)
 
 -- why image and description weren't loaded: the cause's outcome comes before anything follows of them
 abbrev pub IsUnloaded : Option Held → (List ℕ → Type 0) → Inputs → Stop → Type 0
-IsUnloaded told rose inputs stop = IfSome (outcome_of stop) (Comes told rose (loaded inputs (λ image cfg. Never)))
+IsUnloaded told rose inputs stop = IfSome (outcome_of stop) (Comes told rose (loaded inputs (λ l. Never)))
 
 -- the same of a trace
 abbrev pub IsUnscripted : Option Held → (List ℕ → Type 0) → Description → List ℕ → Stop → Type 0
 IsUnscripted told rose cfg trace stop =
     IfSome (outcome_of stop) (Comes told rose (scripted_by cfg trace (λ lines. Never)))
+
+-- the same of a certificate
+abbrev pub IsUncertified : Option Held → (List ℕ → Type 0) → List ℕ → Stop → Type 0
+IsUncertified told rose cert stop = IfSome (outcome_of stop) (Comes told rose (certified cert (λ c. Never)))
 
 -- an outcome of the work was told; or the outcome of the cause comes of the work, and nothing was written
 abbrev pub Ends : Option Held → (List ℕ → Type 0) → Work → SinkState → SinkState → Result Status Stop → Type 0

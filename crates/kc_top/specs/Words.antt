@@ -11,6 +11,7 @@ pub record Inputs : Type 0 where
 pub data Request : Type 0 where
   Check : Inputs → List ℕ → Request
   Replay : Inputs → List ℕ → Request
+  Upgrade : List ℕ → Request
 
 -- a word that is neither a mode nor an operand: it is empty or begins with `-`
 abbrev pub is_faulty : List ℕ → Bool
@@ -27,11 +28,17 @@ abbrev pub replay_of : List (List ℕ) → Option Request
 replay_of (image ∷ config ∷ trace ∷ []) = Some (Replay (record { image = image; config = config }) trace)
 replay_of operands = None
 
+-- `upgrade CERT`
+abbrev pub upgrade_of : List (List ℕ) → Option Request
+upgrade_of (cert ∷ []) = Some (Upgrade cert)
+upgrade_of operands = None
+
 -- by the first word, the mode
 abbrev pub mode_of : List (List ℕ) → Option Request
 mode_of (mode ∷ operands) =
     if bytes_eq mode (codes "check") then check_of operands
     else if bytes_eq mode (codes "replay") then replay_of operands
+    else if bytes_eq mode (codes "upgrade") then upgrade_of operands
     else None
 mode_of [] = None
 

@@ -1,4 +1,4 @@
-//! The mode `check`, over the first form of its files.
+//! The mode `check`.
 
 ghost use Rattle.std.specs.Prelude.{Some};
 ghost use Rattle.kc_io.specs.Files.{FilesKept, HasFailed};
@@ -8,18 +8,17 @@ ghost use Rattle.kc_top.specs.RequestSteps.{inputs_of};
 ghost use Rattle.kc_top.specs.Output.{work_of};
 ghost use Rattle.kc_top.specs.OutputSteps.{Ends};
 
-use crate::letters::{judge, letter_fault};
-use crate::lines;
-use crate::operand::{CERT_LIMIT, CONFIG_LIMIT, IMAGE_LIMIT, operand};
+use crate::cert::open_cert;
+use crate::load::load;
 use crate::outcome::say;
-use crate::reading::{is_config, read_code};
 use crate::request::Inputs;
 use crate::status::Status;
 use crate::stop::Stop;
+use crate::verdict::judge;
 use kc_io::{Files, Sink};
 use std::alloc::Global;
 
-/// Reads the image, the configuration and the certificate in this order, decides, and writes one line.
+/// Reads the image, the description and the certificate in this order, checks the certificate, and writes one line.
 pub fn check<'a, F: Files, S: Sink>(
     alloc: Global,
     inputs: Inputs<'a>,
@@ -32,19 +31,8 @@ pub fn check<'a, F: Files, S: Sink>(
     ensures files_kept { FilesKept (F.state files.old) (F.state files.new) }
     ensures out_kept { SinkKept (S.state out.old) (S.state out.new) }
 {
-    let image = operand(alloc, files, inputs.image, IMAGE_LIMIT)?;
-    let code = match read_code(&image) {
-        Ok(code) => code,
-        Err(fault) => return Err(Stop::BadImage(fault)),
-    };
-    let config = operand(alloc, files, inputs.config, CONFIG_LIMIT)?;
-    if !is_config(&config) {
-        return Err(Stop::NotBuilt);
-    }
-    let letters = operand(alloc, files, cert, CERT_LIMIT)?;
-    if let Some(at) = letter_fault(&letters) {
-        return Err(Stop::BadCert(at));
-    }
-    let verdict = lines::verdict(alloc, judge(&code, &letters))?;
+    let loaded = load(alloc, files, inputs)?;
+    let cert = open_cert(alloc, files, cert)?;
+    let verdict = judge(alloc, &loaded, &cert)?;
     Ok(say(out, verdict.status, verdict.text.as_str()))
 }

@@ -6,7 +6,8 @@ ghost use Rattle.kc_io.specs.Sink.{SinkKept};
 ghost use Rattle.kc_top.specs.declared.outcome.Outcome.{Outcome as OutcomeValue};
 ghost use Rattle.kc_top.specs.Words.{request_of};
 ghost use Rattle.kc_top.specs.RequestSteps.{asked};
-ghost use Rattle.kc_top.specs.Output.{work_of, IsDue, Tells, AcceptsSafe, HoldsFiles, IsDecided};
+ghost use Rattle.kc_top.specs.Output.{work_of, IsDue, Tells, IsCertifiedFor, IsUncertifiedFor, OfCheck};
+ghost use Rattle.kc_top.specs.Output.{HoldsFiles, IsDecided};
 ghost use Rattle.kc_top.specs.OutputSteps.{outcome_of, Ends};
 
 use crate::check::check;
@@ -14,6 +15,7 @@ use crate::outcome::say;
 use crate::replay::replay;
 use crate::request::{Request, request_of};
 use crate::stop::Stop;
+use crate::upgrade::upgrade;
 use crate::{Status, Words, lines};
 use kc_io::{Files, Sink};
 use kc_plain::NoMemory;
@@ -35,6 +37,7 @@ fn perform<'a, F: Files, S: Sink>(
     match request {
         Request::Check { inputs, cert } => check(alloc, inputs, cert, files, out),
         Request::Replay { inputs, trace } => replay(alloc, inputs, trace, files, out),
+        Request::Upgrade { cert } => upgrade(alloc, cert, files, out),
     }
 }
 
@@ -55,6 +58,7 @@ fn report<S: Sink>(alloc: Global, stop: Stop<'_>, out: &mut S) -> Status
 ///
 /// `check IMAGE CONFIG CERT` reads the three files in this order, decides, and writes one line.
 /// `replay IMAGE CONFIG TRACE` reads its three in order, runs the trace, and writes what is told of it.
+/// `upgrade CERT` reads a certificate, and writes it in version 2.
 /// The answer is the outcome's status, and then the sink refused nothing; `WriteFault` where the sink
 /// refused a part of the text; `NoMemory` where memory ran out, and then nothing was written.
 pub fn run<F: Files, S: Sink>(alloc: Global, words: &Words, files: &mut F, out: &mut S) -> Status
@@ -67,8 +71,11 @@ pub fn run<F: Files, S: Sink>(alloc: Global, words: &Words, files: &mut F, out: 
     ensures usage { request_of words.now ≡ None → result ≢ Status.NoMemory }
     ensures memory { result ≡ Status.NoMemory → S.state out.new ≡ S.state out.old }
 
-    // Accepted code stays safe.
-    ensures safe { result ≡ Status.Done → AcceptsSafe (F.state files.old).held (request_of words.now) }
+    // A check accepts where the certificate is certified, and refuses only where it isn't.
+    ensures certified { result ≡ Status.Done →
+        OfCheck (F.state files.old).held (request_of words.now) IsCertifiedFor }
+    ensures uncertified { result ≡ Status.Refused →
+        OfCheck (F.state files.old).held (request_of words.now) IsUncertifiedFor }
     ensures files_kept { FilesKept (F.state files.old) (F.state files.new) }
     ensures out_kept { SinkKept (S.state out.old) (S.state out.new) }
 {

@@ -1,22 +1,21 @@
 //! The program as one call: from words and files to a status and what is written.
 #![tactic(auto)]
 
+mod cert;
 mod check;
 mod command;
-mod form;
-mod letters;
 mod lines;
 mod load;
 mod memory;
 mod operand;
 mod outcome;
 mod process;
-mod reading;
 mod replay;
 mod request;
 mod status;
 mod stop;
-mod straight;
+mod upgrade;
+mod verdict;
 mod words;
 
 pub use command::{one_outcome, run};

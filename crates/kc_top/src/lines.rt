@@ -1,16 +1,15 @@
-//! The lines that the program prints.
+//! The lines of the causes that stop a mode.
 
 ghost use Rattle.std.specs.Prelude.{◌≡◌, IfOk, Some, string_bytes};
 ghost use Rattle.kc_top.specs.Lines.{image_kind, bad_image_line, config_kind, config_path, bad_config_line};
-ghost use Rattle.kc_top.specs.Lines.{trace_kind, fault_line, bad_trace_line, address_text, accepted_line};
-ghost use Rattle.kc_top.specs.Lines.{refused_table_line, refused_node_line};
+ghost use Rattle.kc_top.specs.Lines.{cert_kind, bad_cert_line, trace_kind, fault_line, bad_trace_line};
 ghost use Rattle.kc_top.specs.Work.{read_fault, too_large};
-ghost use Rattle.kc_top.specs.Output.{bad_image, bad_config, not_built, bad_cert, bad_trace, verdict};
+ghost use Rattle.kc_top.specs.Output.{bad_image, bad_config, bad_cert, bad_trace};
 ghost use Rattle.kc_top.specs.OutputSteps.{outcome_of};
 
-use crate::letters::Refusal;
 use crate::stop::Stop;
 use crate::{Outcome, Status};
+use kc_certfields::{CertFault, CertKind};
 use kc_config::ConfigFault;
 use kc_image::{ImageFault, ImageKind};
 use kc_plain::{NoMemory, Text};
@@ -19,7 +18,7 @@ use std::alloc::Global;
 
 /// The line for words that are no command.
 pub const USAGE: &str =
-    "usage: entrycert check IMAGE CONFIG CERT, find IMAGE CONFIG, explain IMAGE CONFIG [CERT], replay IMAGE CONFIG TRACE, gen SEED SIZE\n";
+    "usage: entrycert check IMAGE CONFIG CERT, find IMAGE CONFIG, explain IMAGE CONFIG [CERT], replay IMAGE CONFIG TRACE, gen SEED SIZE, upgrade CERT\n";
 
 /// A read of the named file failed.
 fn read_fault(alloc: Global, name: &str) -> Result<Outcome, NoMemory>
@@ -133,21 +132,36 @@ fn bad_config(alloc: Global, fault: &ConfigFault) -> Result<Outcome, NoMemory>
     })
 }
 
-/// The configuration isn't empty.
-fn not_built(alloc: Global) -> Result<Outcome, NoMemory>
-    ensures { IfOk result (λ o. o ≡ not_built tt) }
+/// The number and the name of a kind of fault in a certificate.
+fn cert_kind(kind: CertKind) -> &'static str
+    ensures { result.now ≡ cert_kind kind }
 {
-    Ok(Outcome {
-        status: Status::BadConfig,
-        text: Text::copied(alloc, "bad config 10 NotBuilt -\n")?,
-    })
+    match kind {
+        CertKind::BadMagic => "1 BadMagic",
+        CertKind::Version => "2 Version",
+        CertKind::Short => "3 Short",
+        CertKind::Trailing => "4 Trailing",
+        CertKind::Order => "5 Order",
+        CertKind::Range => "6 Range",
+        CertKind::TooMany => "7 TooMany",
+        CertKind::NoMemory => "8 NoMemory",
+    }
 }
 
-/// A byte of the certificate is no letter.
-fn bad_cert(alloc: Global, at: usize) -> Result<Outcome, NoMemory>
-    ensures { IfOk result (λ o. o ≡ bad_cert at) }
+/// The line of a fault in a certificate.
+fn bad_cert_text(alloc: Global, fault: CertFault) -> Result<String, NoMemory>
+    ensures { IfOk result (λ s. string_bytes s ≡ bad_cert_line fault) }
 {
-    let text = format!(in alloc; "bad certificate 6 Range at {at}\n")?;
+    let kind = cert_kind(fault.kind);
+    let at = fault.at;
+    Ok(format!(in alloc; "bad certificate {kind} at {at}\n")?)
+}
+
+/// The certificate isn't in its form.
+fn bad_cert(alloc: Global, fault: CertFault) -> Result<Outcome, NoMemory>
+    ensures { IfOk result (λ o. o ≡ bad_cert fault) }
+{
+    let text = bad_cert_text(alloc, fault)?;
     Ok(Outcome {
         status: Status::BadCert,
         text: Text::from_string(text),
@@ -205,60 +219,8 @@ pub fn outcome_of(alloc: Global, stop: Stop<'_>) -> Result<Outcome, NoMemory>
         Stop::TooLarge(name) => too_large(alloc, name),
         Stop::BadImage(fault) => bad_image(alloc, fault),
         Stop::BadConfig(fault) => bad_config(alloc, &fault),
-        Stop::NotBuilt => not_built(alloc),
-        Stop::BadCert(at) => bad_cert(alloc, at),
+        Stop::BadCert(fault) => bad_cert(alloc, fault),
         Stop::BadTrace(fault) => bad_trace(alloc, fault),
         Stop::NoMemory => Err(NoMemory),
     }
-}
-
-/// The conditions hold, for so many contexts and nodes.
-fn accepted(alloc: Global, contexts: usize, nodes: usize) -> Result<String, NoMemory>
-    ensures { IfOk result (λ s. string_bytes s ≡ accepted_line contexts nodes) }
-{
-    Ok(format!(in alloc; "accepted contexts={contexts} nodes={nodes}\n")?)
-}
-
-/// A condition of the table fails.
-fn refused_table(alloc: Global, condition: u8) -> Result<String, NoMemory>
-    ensures { IfOk result (λ s. string_bytes s ≡ refused_table_line condition) }
-{
-    Ok(format!(in alloc; "refused C{condition}\n")?)
-}
-
-/// `0x` and sixteen hexadecimal digits.
-fn address_text(alloc: Global, address: u64) -> Result<String, NoMemory>
-    ensures { IfOk result (λ s. string_bytes s ≡ address_text address) }
-{
-    Ok(format!(in alloc; "0x{address:016x}")?)
-}
-
-/// A condition fails in this context, at the instruction of this address.
-fn refused_node(
-    alloc: Global,
-    condition: u8,
-    context: usize,
-    address: u64,
-) -> Result<String, NoMemory>
-    ensures { IfOk result (λ s. string_bytes s ≡ refused_node_line condition context address) }
-{
-    let address = address_text(alloc, address)?;
-    Ok(format!(in alloc; "refused C{condition} context {context} at {address}\n")?)
-}
-
-/// The conditions hold for so many nodes, or this is the first that fails.
-pub fn verdict(alloc: Global, judged: Result<usize, Refusal>) -> Result<Outcome, NoMemory>
-    ensures { IfOk result (λ o. o ≡ verdict judged) }
-{
-    let (status, text) = match judged {
-        Ok(count) => (Status::Done, accepted(alloc, 1, count)?),
-        Err(Refusal::Table(condition)) => (Status::Refused, refused_table(alloc, condition)?),
-        Err(Refusal::Node(condition, address)) => {
-            (Status::Refused, refused_node(alloc, condition, 0, address)?)
-        }
-    };
-    Ok(Outcome {
-        status,
-        text: Text::from_string(text),
-    })
 }

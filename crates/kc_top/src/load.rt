@@ -1,4 +1,4 @@
-//! The files with which a mode begins: the image, and the description over its symbols.
+//! The files with which a mode begins: the image, and the description over its symbols, with the digests of both.
 
 ghost use Rattle.std.specs.Prelude.{◌≡◌, IfOk, IfErr, Ok};
 ghost use Rattle.kc_io.specs.Files.{FilesKept, HasFailed};
@@ -6,15 +6,18 @@ ghost use Rattle.kc_image.specs.ImageFile.{contents_of};
 ghost use Rattle.kc_regions.specs.Valid.{IsValid};
 ghost use Rattle.kc_config.specs.Reading.{description};
 ghost use Rattle.kc_top.specs.RequestSteps.{inputs_of};
-ghost use Rattle.kc_top.specs.OutputSteps.{IsNoImage, IsNoDescription, AreLoaded, IsUnloaded};
+ghost use Rattle.kc_top.specs.Output.{AreLoaded};
+ghost use Rattle.kc_top.specs.OutputSteps.{IsNoImage, IsNoDescription, IsUnloaded};
 
 use crate::operand::{CONFIG_LIMIT, IMAGE_LIMIT, operand};
 use crate::request::Inputs;
 use crate::stop::Stop;
+use kc_cert::Digests;
 use kc_config::{ConfigFault, read_config};
 use kc_image::{Image, ImageKind, read_image};
 use kc_io::Files;
 use kc_regions::Config;
+use sha2::{Digest, Sha256};
 use std::alloc::Global;
 
 /// An image, and a description that is valid and whose addresses name its symbols.
@@ -22,6 +25,8 @@ use std::alloc::Global;
 pub struct Loaded {
     pub image: Image,
     pub config: Config,
+    /// Of the bytes of the two files.
+    pub digests: Digests,
 }
 
 /// The image of a file's bytes.
@@ -60,14 +65,23 @@ pub fn load<'a, F: Files>(
     files: &mut F,
     inputs: Inputs<'a>,
 ) -> Result<Loaded, Stop<'a>>
-    ensures loaded { IfOk result (λ l. AreLoaded (F.state files.old).held (inputs_of inputs.entry) l.image l.config) }
+    ensures loaded { IfOk result (λ l. AreLoaded (F.state files.old).held (inputs_of inputs.entry) l) }
     ensures unloaded { IfErr result (IsUnloaded (F.state files.old).held
         (HasFailed (F.state files.old) (F.state files.new)) (inputs_of inputs.entry)) }
     ensures kept { FilesKept (F.state files.old) (F.state files.new) }
 {
     let file = operand(alloc, files, inputs.image, IMAGE_LIMIT)?;
+    let image_digest = Sha256::digest(&file);
     let image = image_of(alloc, file)?;
     let text = operand(alloc, files, inputs.config, CONFIG_LIMIT)?;
     let config = config_of(alloc, &text, &image)?;
-    Ok(Loaded { image, config })
+    let digests = Digests {
+        image: image_digest,
+        config: Sha256::digest(&text),
+    };
+    Ok(Loaded {
+        image,
+        config,
+        digests,
+    })
 }

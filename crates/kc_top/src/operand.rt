@@ -14,9 +14,6 @@ pub const IMAGE_LIMIT: u64 = 67_108_864;
 /// The most bytes of a configuration.
 pub const CONFIG_LIMIT: u64 = 1_048_576;
 
-/// The most bytes of a certificate.
-pub const CERT_LIMIT: u64 = 201_326_592;
-
 /// The most bytes of a trace.
 pub const TRACE_LIMIT: u64 = 16_777_216;
 

@@ -72,7 +72,7 @@ pub fn replay<'a, F: Files, S: Sink>(
     ensures files_kept { FilesKept (F.state files.old) (F.state files.new) }
     ensures out_kept { SinkKept (S.state out.old) (S.state out.new) }
 {
-    let Loaded { image, config } = load(alloc, files, inputs)?;
+    let Loaded { image, config, .. } = load(alloc, files, inputs)?;
     let script = open_script(alloc, files, &config, trace)?;
     let told = replay_text(alloc, image, config, &script)?;
     Ok(say(out, run_status(told.clean), told.text.as_str()))

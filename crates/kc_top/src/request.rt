@@ -2,7 +2,7 @@
 
 ghost use Rattle.std.specs.Prelude.{◌≡◌, map, string_bytes, option_map};
 ghost use Rattle.std.specs.List.{list_any};
-ghost use Rattle.kc_top.specs.Words.{is_faulty, check_of, replay_of, mode_of, request_of};
+ghost use Rattle.kc_top.specs.Words.{is_faulty, check_of, replay_of, upgrade_of, mode_of, request_of};
 ghost use Rattle.kc_top.specs.RequestSteps.{asked};
 
 /// The files that a mode begins with, by name.
@@ -19,6 +19,8 @@ pub enum Request<'a> {
     Check { inputs: Inputs<'a>, cert: &'a str },
     /// `replay IMAGE CONFIG TRACE`
     Replay { inputs: Inputs<'a>, trace: &'a str },
+    /// `upgrade CERT`
+    Upgrade { cert: &'a str },
 }
 
 /// Whether a word is neither a mode nor an operand: it is empty or begins with `-`.
@@ -70,6 +72,18 @@ fn replay_of(operands: &[String]) -> Option<Request<'_>>
     }
 }
 
+/// The operand of `upgrade`.
+fn upgrade_of(operands: &[String]) -> Option<Request<'_>>
+    ensures { option_map asked result ≡ upgrade_of (map (λ s. string_bytes s) operands.now) }
+{
+    match operands {
+        [cert] => Some(Request::Upgrade {
+            cert: cert.as_str(),
+        }),
+        _ => None,
+    }
+}
+
 /// By the first word, the mode.
 fn mode_of(words: &[String]) -> Option<Request<'_>>
     ensures { option_map asked result ≡ mode_of (map (λ s. string_bytes s) words.now) }
@@ -81,6 +95,8 @@ fn mode_of(words: &[String]) -> Option<Request<'_>>
                 check_of(operands)
             } else if mode.as_str() == "replay" {
                 replay_of(operands)
+            } else if mode.as_str() == "upgrade" {
+                upgrade_of(operands)
             } else {
                 None
             }

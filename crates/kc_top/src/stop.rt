@@ -2,6 +2,7 @@
 
 ghost use Rattle.std.specs.Prelude.{◌≡◌};
 
+use kc_certfields::CertFault;
 use kc_config::ConfigFault;
 use kc_image::ImageFault;
 use kc_plain::NoMemory;
@@ -18,10 +19,8 @@ pub enum Stop<'a> {
     BadImage(ImageFault),
     /// The configuration isn't in its form, or breaks a rule.
     BadConfig(ConfigFault),
-    /// The configuration isn't in its first form.
-    NotBuilt,
-    /// The byte of the certificate at this offset isn't in its form.
-    BadCert(usize),
+    /// The certificate isn't in its form.
+    BadCert(CertFault),
     /// The trace isn't in its form, or no machine may start so.
     BadTrace(TraceFault),
     /// Memory ran out.

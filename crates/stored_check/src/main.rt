@@ -1,4 +1,4 @@
-//! The program `entrycert` again, for a second stored run: words, files in `data/`, and the letters on
+//! The program `entrycert` again, for a second stored run: words, files in `data/`, and the certificate on
 //! standard input by the name `/dev/stdin`.
 #![tactic(auto)]
 

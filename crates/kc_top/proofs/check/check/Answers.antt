@@ -1,102 +1,67 @@
-use Rattle.std.proofs.Common.{rules, Ok, Err, ◌≡◌, ◌≢◌, sym, subst, [], refl}
-use Rattle.kc_io.specs.Files.{HasFailed}
-use Rattle.kc_top.specs.declared.status.Status.TheVariants.{WriteFault}
+use Rattle.std.proofs.Common.{◌≡◌, ◌≢◌, sym, subst, refl}
+use Rattle.std.specs.Prelude.{Option}
+use Rattle.kc_io.specs.Files.{Held, HasFailed}
+use Rattle.kc_cert.specs.declared.certificate.Certificate.{Certificate}
+use Rattle.kc_top.specs.declared.load.Loaded.{Loaded}
 use Rattle.kc_top.specs.declared.outcome.Outcome.{Outcome}
-use Rattle.kc_top.specs.FirstForm.{first_image, first_letters}
-use Rattle.kc_top.specs.FormSteps.{code_of, IsImage}
-use Rattle.kc_top.specs.Letters.{judged}
 use Rattle.kc_top.specs.RequestSteps.{inputs_of}
-use Rattle.kc_top.specs.Work.{Only, form, Comes}
-use Rattle.kc_top.specs.Output.{CONFIG_LIMIT, not_built, bad_cert, verdict, first_configured, first_loaded}
-use Rattle.kc_top.specs.FirstForm.{first_config}
-use Rattle.kc_top.specs.OutputSteps.{outcome_of}
-use Rattle.kc_top.proofs.OutputLemmas.{own-verdict, tells}
-use Rattle.kc_top.proofs.CheckLemmas.{lettered_code, no_image, after_image, after_config, unread, IfSome-map}
-use Rattle.kc_top.proofs.CheckLemmas.{ends_early, no_letters, after_letters, kept_on, whole_first}
+use Rattle.kc_top.specs.Work.{Work, Over, Comes}
+use Rattle.kc_top.specs.Output.{loaded, certified, IsVerdict, IsCertificateOf}
+use Rattle.kc_top.specs.OutputSteps.{outcome_of, Never}
+use Rattle.kc_top.proofs.OutputLemmas.{checks, own-verdict, tells}
+use Rattle.kc_top.proofs.ReadLemmas.{IfSome-map, ends_early, kept_on}
+use Rattle.kc_top.proofs.LoadLemmas.{Comes-later, loaded-cut, after_loaded, certified-cut, after_certificate}
 use Rattle.kc_top.proofs.check.check.Goals as goal
 
-pub returns-in-Err-clause-ends : goal.returns-in-Err-clause-ends
-returns-in-Err-clause-ends g c = (
-  no_image (g.F.Files.state c.args.files.now).held
-      (HasFailed (g.F.Files.state c.args.files.now) (g.F.Files.state c.operand.new.files))
-      (inputs_of c.args.inputs) (lettered_code c.args.cert.now) c.in_ok-image.image.items c.in-Err.fault
-      c.in_ok-image.ensures.whole c.in_ok-image.ensures.within (search rules),
-  refl,
-)
-
--- the image was read, and the configuration wasn't
-pub returns-in_err-config-clause-ends : goal.returns-in_err-config-clause-ends
-returns-in_err-config-clause-ends g c =
+-- image and description weren't loaded
+pub returns-in_err-loaded-clause-ends : goal.returns-in_err-loaded-clause-ends
+returns-in_err-loaded-clause-ends g c =
     let first = g.F.Files.state c.args.files.now in
-    let last = g.F.Files.state c.operand-2.new.files in
-    let rose = HasFailed first last in
-    let next = lettered_code c.args.cert.now in
+    let rose = HasFailed first (g.F.Files.state c.load.new.files) in
     let inputs = inputs_of c.args.inputs in
-    let code = code_of c.in-Ok.code in
-    let image : IsImage (first_image c.in_ok-image.image.items) (Ok c.in-Ok.code) = search rules in
-    ends_early first.held rose (first_loaded inputs next) (g.S.Sink.state c.args.out.now) c.in_err-config.field-0.0
-    c.from_residual-in_err-config.result c.from_residual-in_err-config.ensures.1
-    (IfSome-map (Comes first.held rose (first_configured inputs.config (next code)))
-    (Comes first.held rose (first_loaded inputs next))
-    (after_image first.held rose inputs next c.in_ok-image.image.items c.in-Ok.code c.in_ok-image.ensures.whole
-    c.in_ok-image.ensures.within image) (outcome_of c.in_err-config.field-0.0)
-    (unread first (g.F.Files.state c.operand.new.files) last inputs.config CONFIG_LIMIT
-    (λ file. form not_built (first_config file) (λ _. next code)) c.in_err-config.field-0.0
-    c.operand.ensures.kept c.in_err-config.ensures.unread))
+    let next = checks c.args.cert.now in
+    let stop = c.in_err-loaded.field-0.0 in
+    ends_early first.held rose (loaded inputs next) (g.S.Sink.state c.args.out.now) stop c.from_residual.result
+    c.from_residual.ensures.1
+    (IfSome-map (Comes first.held rose (loaded inputs (λ l. Never))) (Comes first.held rose (loaded inputs next))
+    (loaded-cut first.held rose inputs next) (outcome_of stop) c.in_err-loaded.ensures.unloaded)
 
--- both were read, and a byte of the certificate is no letter
-pub returns-in-Some-clause-ends : goal.returns-in-Some-clause-ends
-returns-in-Some-clause-ends g c =
+-- they were, and the certificate wasn't read
+pub returns-in_err-cert-clause-ends : goal.returns-in_err-cert-clause-ends
+returns-in_err-cert-clause-ends g c =
     let first = g.F.Files.state c.args.files.now in
-    let second = g.F.Files.state c.operand.new.files in
-    let third = g.F.Files.state c.operand-2.new.files in
-    let rose = HasFailed first (g.F.Files.state c.operand-3.new.files) in
-    let next = lettered_code c.args.cert.now in
+    let second = g.F.Files.state c.load.new.files in
+    let third = g.F.Files.state c.open_cert.new.files in
+    let rose = HasFailed first third in
     let inputs = inputs_of c.args.inputs in
-    let code = code_of c.in-Ok.code in
-    let image : IsImage (first_image c.in_ok-image.image.items) (Ok c.in-Ok.code) = search rules in
-    let empty : c.in_ok-config.config.items ≡ [] = search rules in
-    let none : first_letters c.in_ok-letters.letters.items ≡ Err c.in-Some.at = search rules in (
-      after_image first.held rose inputs next c.in_ok-image.image.items c.in-Ok.code c.in_ok-image.ensures.whole
-          c.in_ok-image.ensures.within image (bad_cert c.in-Some.at)
-          (after_config first.held rose inputs.config (next code) c.in_ok-config.config.items
-          (whole_first first second inputs.config c.in_ok-config.config.items c.operand.ensures.kept
-          c.in_ok-config.ensures.whole) c.in_ok-config.ensures.within empty (bad_cert c.in-Some.at)
-          (no_letters first.held rose c.args.cert.now (λ letters. Only (verdict (judged code letters)))
-          c.in_ok-letters.letters.items c.in-Some.at
-          (whole_first first third c.args.cert.now c.in_ok-letters.letters.items
-          (kept_on first second third c.operand.ensures.kept c.operand-2.ensures.kept) c.in_ok-letters.ensures.whole)
-          c.in_ok-letters.ensures.within none)),
-      refl,
-    )
+    let cert = c.args.cert.now in
+    let l = c.in_ok-loaded.loaded in
+    let stop = c.in_err-cert.field-0.0 in
+    let never : Certificate → Work = λ c. Never in
+    ends_early first.held rose (loaded inputs (checks cert)) (g.S.Sink.state c.args.out.now) stop
+    c.from_residual-in_err-cert.result c.from_residual-in_err-cert.ensures.1
+    (IfSome-map (Comes second.held (HasFailed second third) (certified cert never))
+    (Comes first.held rose (loaded inputs (checks cert)))
+    (λ o comes. after_loaded first.held rose inputs (checks cert) l c.in_ok-loaded.ensures.loaded o
+    (certified-cut first.held rose cert (λ c. Over (IsVerdict l c)) o
+    (Comes-later first second third (certified cert never) o c.load.ensures.kept comes))) (outcome_of stop)
+    c.in_err-cert.ensures.uncertified)
 
--- all three were read
+-- all three were read, and the verdict was written
 pub returns-clause-ends : goal.returns-clause-ends
 returns-clause-ends g c =
     let first = g.F.Files.state c.args.files.now in
-    let second = g.F.Files.state c.operand.new.files in
-    let third = g.F.Files.state c.operand-2.new.files in
-    let rose = HasFailed first (g.F.Files.state c.operand-3.new.files) in
-    let next = lettered_code c.args.cert.now in
+    let rose = HasFailed first (g.F.Files.state c.open_cert.new.files) in
     let inputs = inputs_of c.args.inputs in
-    let code = code_of c.in-Ok.code in
-    let letters = c.in_ok-letters.letters.items in
-    let image : IsImage (first_image c.in_ok-image.image.items) (Ok c.in-Ok.code) = search rules in
-    let empty : c.in_ok-config.config.items ≡ [] = search rules in
-    let all : first_letters letters ≡ Ok letters = search rules in
+    let name = c.args.cert.now in
+    let l = c.in_ok-loaded.loaded in
+    let cert = c.in_ok-cert.cert in
     let o : Outcome = c.in_ok-verdict.verdict in
-    let is : o ≡ verdict (judged code letters) = search rules in (
+    let read : IsCertificateOf first.held name cert = subst (λ (held : Option Held). IsCertificateOf held name cert)
+    c.load.ensures.kept.held c.in_ok-cert.ensures.certificate in (
       o,
-      after_image first.held rose inputs next c.in_ok-image.image.items c.in-Ok.code c.in_ok-image.ensures.whole
-          c.in_ok-image.ensures.within image o
-          (after_config first.held rose inputs.config (next code) c.in_ok-config.config.items
-          (whole_first first second inputs.config c.in_ok-config.config.items c.operand.ensures.kept
-          c.in_ok-config.ensures.whole) c.in_ok-config.ensures.within empty o
-          (after_letters first.held rose c.args.cert.now (λ letters. Only (verdict (judged code letters))) letters
-          (whole_first first third c.args.cert.now letters
-          (kept_on first second third c.operand.ensures.kept c.operand-2.ensures.kept) c.in_ok-letters.ensures.whole)
-          c.in_ok-letters.ensures.within all o is)),
-      tells o c.say.result _ _
-          (subst (λ (o : Outcome). o.status ≢ WriteFault) (sym is) (own-verdict (judged code letters)).written)
+      after_loaded first.held rose inputs (checks name) l c.in_ok-loaded.ensures.loaded o
+          (after_certificate first.held rose name (λ c. Over (IsVerdict l c)) cert read o c.in_ok-verdict.ensures),
+      tells o c.say.result _ _ (own-verdict l cert o c.in_ok-verdict.ensures).written
           (rw c.as_str.ensures.bytes at c.say.ensures.all) (rw c.as_str.ensures.bytes at c.say.ensures.part),
     )

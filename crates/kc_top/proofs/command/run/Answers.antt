@@ -8,7 +8,7 @@ use Rattle.kc_top.specs.Work.{Comes}
 use Rattle.kc_io.specs.Sink.{SinkState}
 use Rattle.kc_top.specs.OutputSteps.{outcome_of}
 use Rattle.kc_top.specs.Output.{work_of, IsDue, usage, Tells}
-use Rattle.kc_top.proofs.OutputLemmas.{said, tells, accepted-safe, both_of}
+use Rattle.kc_top.proofs.OutputLemmas.{said, tells, checked-done, checked-refused, both_of}
 use Rattle.kc_top.proofs.command.run.Goals as goal
 
 -- words that are no command
@@ -33,9 +33,9 @@ returns-in-Ok-clause-memory g c = λ no.
     absurd ((said told rose (Some (asked c.in-Some.request)) c.in-Ok.ensures.ends.0 c.in-Ok.ensures.ends.1).remembered
     (sym (c.in-Ok.ensures.ends.2.all written).0 ∙ no))
 
--- an accepted outcome says that the code stays safe
-pub returns-in-Ok-clause-safe : goal.returns-in-Ok-clause-safe
-returns-in-Ok-clause-safe g c = λ done.
+-- an accepted certificate is certified
+pub returns-in-Ok-clause-certified : goal.returns-in-Ok-clause-certified
+returns-in-Ok-clause-certified g c = λ done.
     let told = (g.F.Files.state c.args.files.now).held in
     let rose = HasFailed (g.F.Files.state c.args.files.now) (g.F.Files.state c.perform.new.files) in
     let request : Some (asked c.in-Some.request) ≡ request_of c.args.words.now = search rules in
@@ -43,8 +43,19 @@ returns-in-Ok-clause-safe g c = λ done.
     let due : IsDue told rose c.args.words.now o = subst
     (λ (r : Option Request). Comes told rose (work_of r) o) request c.in-Ok.ensures.ends.1 in
     let written : c.in-Ok.status ≢ WriteFault = λ fault. cc in
-    accepted-safe told rose (request_of c.args.words.now) o due
-    (sym (c.in-Ok.ensures.ends.2.all written).0 ∙ done)
+    checked-done told rose (request_of c.args.words.now) o due (sym (c.in-Ok.ensures.ends.2.all written).0 ∙ done)
+
+-- a refused one isn't
+pub returns-in-Ok-clause-uncertified : goal.returns-in-Ok-clause-uncertified
+returns-in-Ok-clause-uncertified g c = λ refuses.
+    let told = (g.F.Files.state c.args.files.now).held in
+    let rose = HasFailed (g.F.Files.state c.args.files.now) (g.F.Files.state c.perform.new.files) in
+    let request : Some (asked c.in-Some.request) ≡ request_of c.args.words.now = search rules in
+    let o = c.in-Ok.ensures.ends.0 in
+    let due : IsDue told rose c.args.words.now o = subst
+    (λ (r : Option Request). Comes told rose (work_of r) o) request c.in-Ok.ensures.ends.1 in
+    let written : c.in-Ok.status ≢ WriteFault = λ fault. cc in
+    checked-refused told rose (request_of c.args.words.now) o due (sym (c.in-Ok.ensures.ends.2.all written).0 ∙ refuses)
 
 -- the mode stopped before its own end
 pub returns-in-Err-clause-outcome : goal.returns-in-Err-clause-outcome

@@ -1,0 +1,4 @@
+pub mod RangeLemmas
+pub mod RuleLemmas
+pub mod FaultLemmas
+pub mod FormLemmas
