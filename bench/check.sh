@@ -24,8 +24,9 @@ taken() {
 }
 
 while [ $# -gt 0 ]; do
-    answer="$("$program" check "$1" "$2" "$3")" || [ $? -eq 1 ]
+    answer="$("$program" check "$1" "$2" "$3")" && status=0 || status=$?
     echo "$3: $answer"
+    [ "$status" -le 1 ] || exit 1
     /usr/bin/time -q -f %M -o "$work/peak" "$program" check "$1" "$2" "$3" >/dev/null || true
     own="$(taken "$program" check "$1" "$2" "$3")"
     sum="$(taken sha256sum "$1" "$2" "$3")"
