@@ -5,3 +5,4 @@ pub mod Form
 pub mod Conditions
 pub mod Certified
 pub mod FirstRefusal
+pub mod IterationLimit
