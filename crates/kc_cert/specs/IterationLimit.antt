@@ -131,7 +131,8 @@ home_demand d key = ForClobber key (with_stack_in nothing_written (home_stack d 
 -- C14 while the user runs
 abbrev pub user_demands : Description → UserState → List Demand
 user_demands d u =
-    flat_map (λ v. entry_demands d (user_entry d u (Some v))) (user_vectors d u) ++ entry_demands d (user_entry d u None)
+    flat_map (λ v. entry_demands d (user_entry d u (Some v))) (user_vectors d u)
+    ++ entry_demands d (user_entry d u None)
 
 -- all that is demanded, read from one table
 abbrev pub demands : Contents → Description → Table → List Demand
