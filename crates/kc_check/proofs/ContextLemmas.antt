@@ -1,18 +1,12 @@
 -- What the form of a table says of a context by its number, and of the nodes of a context: each names it.
-use Rattle.std.proofs.Common.{◌≡◌, ℕ, ◌<◌, Bool, true, false, List, length, get_or, Option, Some, None, ap, ◌∙◌, subst, arith}
+use Rattle.std.proofs.Common.{◌≡◌, ℕ, ◌<◌, true, List, length, get_or, Option, Some, None, ap, ◌∙◌, subst, arith}
 use Rattle.std.proofs.lemmas.Bool.{eqb-true}
 use Rattle.std.proofs.lemmas.List.Elements.{filter_passes}
 use Rattle.std.specs.Prelude.{IfSome, ◌==◌, slice_get}
 use Rattle.kc_regions.specs.Description.{Description}
 use Rattle.kc_regions.specs.Region.{stacks_of}
-use Rattle.kc_regions.specs.Valid.{IsValid}
-use Rattle.kc_value.specs.Made.{IsPlace}
-use Rattle.kc_state.proofs.KeyLemmas.{key_place}
-use Rattle.kc_state.proofs.StackLemmas.{is_place}
-use Rattle.kc_state.specs.Places.{below_address, home_of, home_stack}
 use Rattle.kc_state.specs.AbsEvents.{HasStack, IsStackOf}
 use Rattle.kc_state.specs.Key.{IsKey}
-use Rattle.kc_state.specs.declared.key.Key.{Key}
 use Rattle.kc_cert.specs.Form.{HasForm, IsContext}
 use Rattle.kc_cert.specs.Table.{nodes_of}
 use Rattle.kc_cert.specs.declared.certificate.Certificate.{Certificate}
@@ -36,17 +30,6 @@ pub context-stack : (d : Description) (cert : Certificate) (i : ℕ) (c : Contex
     → slice_get cert.contexts i ≡ Some c → HasStack d c.key
 context-stack d cert i c form at =
     stack-there d cert.stacks c.key.stack form.stacks (context-key d cert i c form at).stack
-
--- the stack of a context's frame is one of the sixteen
-module _ (d : Description) (valid : IsValid d) where
-  home-of : (base : Option ℕ) (syscall : Bool) (stack : Option ℕ) → IsPlace stack → IsPlace (home_of d base syscall stack)
-  home-of (Some base) syscall stack h = is_place d (below_address base 8) valid
-  home-of None true stack h = tt
-  home-of None false stack h = h
-
-  pub home-below : (key : Key) (s : ℕ) → HasStack d key → home_stack d key ≡ Some s → s < 16
-  home-below key s h e =
-      subst (λ (o : Option ℕ). IsPlace o) e (home-of key.base key.syscall key.stack (key_place d key valid h))
 
 -- a node of context i names it
 pub node-names : (cert : Certificate) (i k : ℕ) (n : Node) (nodes : List Node) (c : Context) → nodes ≡ nodes_of cert i

@@ -1,6 +1,4 @@
 pub mod EachLemmas
-pub mod GoesLemmas
-pub mod WrittenLemmas
 pub mod CountedLemmas
 pub mod PassLemmas
 pub mod EventLemmas

@@ -8,11 +8,11 @@ ghost use Rattle.kc_cert.specs.FirstRefusal.{IsFirstRefusal, context_refusal, ea
 use crate::context::check_context;
 use crate::form::has_form;
 use crate::refused::{at_table, demand};
-use crate::start::is_start_covered;
 use crate::table::Table;
 use crate::user::check_user;
 use kc_cert::{Certificate, Counts, Digests, Refusal};
 use kc_image::Image;
+use kc_placed::is_start_covered;
 use kc_regions::Config;
 use kc_state::{Condition, Scratch};
 
@@ -38,7 +38,7 @@ fn check_from_start(
     ensures { result ≡ refusal_from_start image.now cfg.now cert.now }
 {
     demand(
-        is_start_covered(cfg, cert),
+        is_start_covered(cfg, &cert.user),
         at_table(Condition::START_COVERED),
     )?;
     let table = Table::new(image, cfg, cert);

@@ -12,22 +12,17 @@ use crate::node::check_node;
 use crate::refused::{at_context, demand};
 use crate::table::Table;
 use kc_cert::{Context, Node, Refusal, nodes_of};
-use kc_frames::Clobber;
 use kc_lattice::Domain;
+use kc_placed::home_written;
 use kc_regions::Config;
-use kc_state::{Condition, Scratch, home};
+use kc_state::{Condition, Scratch};
 
 // Whether the stack of the context's frame is in its clobber.
 fn is_home_counted(cfg: &Config, context: &Context) -> bool
     requires stack { HasStack cfg.now context.now.key }
     ensures { result ≡ is_home_counted cfg.now context.now }
 {
-    cfg.tell();
-    let mut all = Clobber::none();
-    if let Some(s) = home(cfg, &context.key) {
-        all.add_stack(s);
-    }
-    all.leq(&context.summary.clobber)
+    home_written(cfg, &context.key).leq(&context.summary.clobber)
 }
 
 // The conditions of the nodes of context `i` in their order.

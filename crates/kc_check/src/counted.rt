@@ -1,49 +1,20 @@
 //! C16 and C17 at the nodes of a context: its summary covers their writes and the latches at its returns, and the user
 //! state covers its returns to the user. This project's own.
 
-ghost use Rattle.std.specs.Prelude.{[], ◌≡◌};
+ghost use Rattle.std.specs.Prelude.{◌≡◌};
 ghost use Rattle.kc_cert.specs.Code.{insn_at};
 ghost use Rattle.kc_cert.specs.Conditions.{is_node_counted, is_user_covered};
 ghost use Rattle.kc_cert.specs.FirstRefusal.{of_insn, of_nodes};
-ghost use Rattle.kc_cert.specs.Placed.{is_return, latches_after};
-ghost use Rattle.kc_state.specs.AbsDelivery.{entered_slot};
 ghost use Rattle.kc_state.specs.AbsEvents.{HasStack};
 ghost use Rattle.kc_state.specs.Key.{IsKey};
 
-use crate::placed::{PlacedNode, place};
-use crate::returning::is_return_insn;
-use crate::start::are_slots_covered;
+use crate::placed::place;
 use crate::table::Table;
-use crate::written::written_by;
 use kc_cert::{Certificate, Context, Node};
-use kc_frames::Change;
-use kc_insn::Insn;
 use kc_lattice::Domain;
+use kc_placed::{PlacedNode, is_return, is_user_after_covered, latches_after, written_by};
 use kc_regions::Config;
-use kc_space::{Latches, Tri};
 use kc_state::Summary;
-use kc_value::Value;
-
-fn is_return(p: &PlacedNode) -> bool
-    ensures { result ≡ is_return p.now }
-{
-    !p.site.inside && is_return_insn(&p.insn)
-}
-
-// The latches after a return: the gap after an STI is over, and IRETQ opens NMIs.
-fn latches_after(p: &PlacedNode) -> Latches
-    ensures { result ≡ latches_after p.now }
-{
-    let latches = p.state.latches;
-    Latches {
-        nmi_blocked: match p.insn {
-            Insn::Iretq => Tri::No,
-            _ => latches.nmi_blocked,
-        },
-        shadow: Tri::No,
-        mcip: latches.mcip,
-    }
-}
 
 fn is_node_counted(cfg: &Config, summary: &Summary, p: &PlacedNode) -> bool
     requires stack { HasStack cfg.now p.now.key }
@@ -53,27 +24,10 @@ fn is_node_counted(cfg: &Config, summary: &Summary, p: &PlacedNode) -> bool
         && (!is_return(p) || latches_after(p).leq(&summary.latches))
 }
 
-// Slots 0 to 39 lose their symbols at a return to the user, and of the others nothing is known.
-struct Plain;
-
-impl Change<Value> for Plain {
-    ghost changed = { λ s i old. entered_slot [] i old };
-
-    fn at(&self, i: u16, old: &Value) -> Value {
-        if i < 40 { old.plain() } else { Value::top() }
-    }
-}
-
 fn is_user_covered(cert: &Certificate, p: &PlacedNode) -> bool
     ensures { result ≡ is_user_covered cert.now p.now }
 {
-    if p.key.kernel || !is_return(p) {
-        return true;
-    }
-    let latches = latches_after(p);
-    latches.nmi_blocked.leq(&cert.user.nmi_blocked)
-        && latches.mcip.leq(&cert.user.mcip)
-        && are_slots_covered(&p.state.slots, &Plain, &cert.user.slots)
+    p.key.kernel || !is_return(p) || is_user_after_covered(p, &cert.user)
 }
 
 // C16 at a node, where there is an instruction.

@@ -10,13 +10,13 @@ ghost use Rattle.kc_frames.specs.Clobber.{clobber_below};
 ghost use Rattle.kc_regions.specs.Lookup.{gate_of};
 ghost use Rattle.kc_state.specs.AbsEvents.{HasStack};
 
-use crate::placed::PlacedNode;
 use crate::refused::at_event;
 use crate::table::Table;
 use kc_absevent::{after_return, deliver_abs, events_at};
 use kc_cert::{Context, Node, Refusal};
 use kc_frames::Clobber;
 use kc_lattice::Domain;
+use kc_placed::PlacedNode;
 use kc_state::{Condition, Scratch, Summary};
 
 /// The context that an event enters, where its frame is permitted and the context covers it.

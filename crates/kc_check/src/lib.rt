@@ -8,14 +8,11 @@ mod counted;
 mod events;
 mod form;
 mod node;
-mod order;
 mod placed;
 mod refused;
 mod returning;
-mod start;
 mod successors;
 mod table;
 mod user;
-mod written;
 
 pub use checker::check;

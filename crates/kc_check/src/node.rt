@@ -5,11 +5,12 @@ ghost use Rattle.kc_cert.specs.FirstRefusal.{node_refusal, placed_refusal};
 ghost use Rattle.kc_state.specs.AbsEvents.{HasStack};
 
 use crate::events::check_events;
-use crate::placed::{PlacedNode, is_node_exact, is_text, place};
+use crate::placed::place;
 use crate::refused::{at_node, demand};
-use crate::successors::{are_covered, go_on};
+use crate::successors::are_covered;
 use crate::table::Table;
 use kc_cert::{Context, Node, Refusal};
+use kc_placed::{PlacedNode, go_on, is_exact_at, is_text};
 use kc_state::{Condition, Scratch};
 
 fn check_placed(
@@ -26,7 +27,7 @@ fn check_placed(
         is_text(table.cfg, p),
         at_node(node, Condition::EXECUTABLE_TEXT),
     )?;
-    let succ = match go_on(table, p, out) {
+    let succ = match go_on(table.cfg, p, out) {
         Ok(succ) => succ,
         Err(condition) => return Err(at_node(node, condition)),
     };
@@ -44,7 +45,7 @@ pub(crate) fn check_node(
     requires named { slice_get table.now.cert.now.contexts node.now.context ≡ Some context.now }
     ensures refusal { result ≡ node_refusal table.now.image.now table.now.cfg.now table.now.cert.now context.now node.now }
 {
-    let exact = is_node_exact(table.cfg, context, node);
+    let exact = is_exact_at(table.cfg, &context.key, &node.site, &node.state);
     demand(exact, at_node(node, Condition::EXACT_SPACES))?;
     match place(table.image, context, node) {
         Some(p) => check_placed(table, context, node, &p, out),

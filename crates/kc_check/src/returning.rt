@@ -2,21 +2,11 @@
 
 ghost use Rattle.std.specs.Prelude.{◌≡◌, ℕ, ◌<◌, All, false, replicate, slice_index_or, slice_set, true};
 ghost use Rattle.kc_cert.specs.Conditions.{is_return_node, returns};
-ghost use Rattle.kc_cert.specs.Placed.{is_return_insn};
 
 use kc_cert::{Certificate, MAX_CONTEXTS, Node, insn_at};
 use kc_image::Image;
-use kc_insn::Insn;
+use kc_placed::is_return_insn;
 use std::marker::Model;
-
-pub(crate) fn is_return_insn(insn: &Insn) -> bool
-    ensures { result ≡ is_return_insn insn.now }
-{
-    match *insn {
-        Insn::Iretq | Insn::Sysretq => true,
-        _ => false,
-    }
-}
 
 // Whether the image has an IRETQ or a SYSRETQ at the node.
 fn is_return_node(image: &Image, node: &Node) -> bool

@@ -7,11 +7,11 @@ ghost use Rattle.kc_cert.specs.Form.{HasForm};
 ghost use Rattle.kc_cert.specs.Placed.{vectors_in_order};
 ghost use Rattle.kc_cert.specs.Table.{covers, number_of};
 
-use crate::order::Vectors;
 use crate::returning::Returning;
 use kc_cert::{Certificate, entry_site, node_at, number_of};
 use kc_image::Image;
 use kc_lattice::Domain;
+use kc_placed::Vectors;
 use kc_regions::Config;
 use kc_state::{AbsState, Key, Site, Summary};
 

@@ -1,0 +1,4 @@
+pub mod ListLemmas
+pub mod HomeLemmas
+pub mod WrittenLemmas
+pub mod GoesLemmas
