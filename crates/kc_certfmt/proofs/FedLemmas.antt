@@ -160,6 +160,20 @@ ends fed s e (inr h) = inr (of (is_short e) h)
     of true h = h.1
     of false h = kept fed e h
 
+-- a fault that stays is the one that there is
+pub met : (f : Option CertFault) (d e : CertFault) → f ≡ Some d → told f ≡ Err e
+    → ◌≡◌ {A = Result Certificate CertFault} (Err d) (Err e)
+met f d e is stays = of (is_short d) (sym (ap told is) ∙ stays)
+  where
+    of : (b : Bool) → lasting b d ≡ Err e → ◌≡◌ {A = Result Certificate CertFault} (Err d) (Err e)
+    of true h = absurd cc
+    of false h = let same : d ≡ e = cc in ap (λ (x : CertFault). Err x) same
+
+-- where there is none, none stays
+pub none-met : (f : Option CertFault) (e : CertFault) → f ≡ None → told f ≡ Err e → ⊥
+none-met None e is stays = absurd cc
+none-met (Some d) e is stays = absurd cc
+
 -- ---- what the calls leave
 
 pub whole-read : (s : Sofar) (p : Part) (cert : Certificate) → s.part ≡ Some p → is_done s.part s.rest ≡ true

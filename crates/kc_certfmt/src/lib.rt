@@ -8,8 +8,6 @@ mod nodes;
 mod progress;
 mod reader;
 mod table;
-#[cfg(test)]
-mod tests;
 
 pub use file::{CertEnd, read_cert_file};
 pub use kc_certfields::{CertFault, CertKind};

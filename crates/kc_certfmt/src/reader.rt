@@ -95,9 +95,10 @@ impl CertReader {
         self.lasting()
     }
 
-    /// The certificate, or the first fault of all bytes that were fed.
+    /// The certificate, or the first fault of all bytes that were fed. After an `Err` of `feed` it is that fault.
     pub fn finish(self) -> Result<Certificate, CertFault>
         ensures read { (fed : List ℕ) → HasRead fed self → Gives no_memory (λ x. x) result (cert_at fed) }
+        ensures met { (e : FaultValue) → told self.fault ≡ Err e → result ≡ Err e }
     {
         let CertReader {
             alloc: _,

@@ -1,7 +1,7 @@
-use Rattle.std.proofs.Common.{Option, subst}
+use Rattle.std.proofs.Common.{Option, ap, ◌∙◌, subst}
 use Rattle.kc_certfields.specs.declared.fault.CertFault.{CertFault}
-use Rattle.kc_certfmt.specs.Fed.{HasReadTo}
-use Rattle.kc_certfmt.proofs.FedLemmas.{ends, gives, is-reader}
+use Rattle.kc_certfmt.specs.Fed.{HasReadTo, Reader, told}
+use Rattle.kc_certfmt.proofs.FedLemmas.{ends, gives, is-reader, met, none-met}
 use Rattle.kc_certfmt.proofs.reader.CertReader.finish.Goals as goal
 
 pub returns-in-Some : goal.returns-in-Some
@@ -10,6 +10,8 @@ returns-in-Some c = record {
       ends fed c.self.inside.progress c.in-Some.fault
       (subst (λ (o : Option CertFault). HasReadTo fed c.self.inside.progress o) c.in-Some.is
       (is-reader fed c.self.inside.progress c.self.inside.fault c.args.self c.self.view_is is));
+  met = λ e stays.
+      met c.self.inside.fault c.in-Some.fault e c.in-Some.is (ap (λ (r : Reader). told r.fault) c.self.view_is ∙ stays);
 }
 
 pub returns-in-None : goal.returns-in-None
@@ -19,4 +21,6 @@ returns-in-None c = record {
       (subst (λ (o : Option CertFault). HasReadTo fed c.self.inside.progress o) c.in-None.is
       (is-reader fed c.self.inside.progress c.self.inside.fault c.args.self c.self.view_is is))
       c.into_certificate.ensures.value;
+  met = λ e stays.
+      absurd (none-met c.self.inside.fault e c.in-None.is (ap (λ (r : Reader). told r.fault) c.self.view_is ∙ stays));
 }

@@ -1,13 +1,11 @@
 //! A certificate of version 2 with eight contexts, twelve nodes and three states, and what changed bytes of it give:
 //! from an independent model.
 
-ghost use Rattle.std.specs.Prelude.{[], None};
-
-use crate::{CertEnd, CertFault, CertReader, read_cert, read_cert_file};
 use kc_cert::Certificate;
 use kc_certfields::CertKind;
+use kc_certfmt::{CertEnd, CertFault, CertReader, read_cert, read_cert_file};
 use kc_certform::order_states;
-use kc_io::{Failed, Files, MemFiles};
+use kc_io::MemFiles;
 use std::alloc::Global;
 use std::test::Fail;
 
@@ -174,37 +172,5 @@ fn faults_of_reading_come_before_faults_of_form(rt: HostRuntime) -> Result<(), F
     assert!(rt; read_cert_file(alloc, &mut files, "cert", 4).err() == Some(CertEnd::TooLong));
     assert!(rt; read_cert_file(alloc, &mut files, "cert", 5).err() == Some(CertEnd::Fault));
     assert!(rt; read_cert_file(alloc, &mut files, "cert", 5).err() == Some(CertEnd::Form(letters)));
-    Ok(())
-}
-
-/// A file of 2^34 bytes 0, which nobody holds.
-#[derive(Drop)]
-struct Zeros {
-    taken: u64,
-}
-
-const ZEROS: u64 = 1 << 34;
-
-impl Files for Zeros {
-    ghost state = { λ z. record { held = None; faults = λ n. 0; failing = []; taken = z.taken } };
-
-    fn read_at(&mut self, _name: &str, at: u64, buf: &mut [u8]) -> Result<usize, Failed> {
-        let count = buf.len().min(ZEROS.saturating_sub(at) as usize);
-        buf[..count].fill(0);
-        self.taken = self.taken.saturating_add(count as u64);
-        Ok(count)
-    }
-}
-
-#[test]
-fn a_file_is_never_held(rt: HostRuntime) -> Result<(), Fail> {
-    let magic = CertFault {
-        kind: CertKind::BadMagic,
-        at: 0,
-    };
-    let mut zeros = Zeros { taken: 0 };
-    let end = read_cert_file(rt.alloc(), &mut zeros, "zeros", ZEROS);
-    assert!(rt; end.err() == Some(CertEnd::Form(magic)));
-    assert!(rt; zeros.taken == ZEROS);
     Ok(())
 }
