@@ -9,11 +9,13 @@ pub returns-then-not-leq : goal.returns-then-not-leq
 returns-then-not-leq g c =
     let x : AbsValue = c.get.result.now in
     let y : AbsValue = c.get-in-loop-i.result.now in
-    rows-fail value_below (g.C.Change.changed c.args.change.now) c.args.old.now c.args.slots.now c.loop-i.i x y c.at.result
-    c.leq.result (omega (arith, c.whole.ensures.count, c.loop-i-test.true))
-    (omega (arith, c.whole-2.ensures.count, c.loop-i-test.true)) (c.get.ensures.value x) (c.get-in-loop-i.ensures.value y)
-    c.at.ensures.value c.leq.ensures.value c.if-not-leq.true
-    ∙ c.loop-i.invariant
+    record {
+      value = rows-fail value_below (g.C.Change.changed c.args.change.now) c.args.old.now c.args.slots.now c.loop-i.i x y
+          c.at.result c.leq.result (omega (arith, c.whole.ensures.count, c.loop-i-test.true))
+          (omega (arith, c.whole-2.ensures.count, c.loop-i-test.true)) (c.get.ensures.value x)
+          (c.get-in-loop-i.ensures.value y) c.at.ensures.value c.leq.ensures.value c.if-not-leq.true
+          ∙ c.loop-i.invariant;
+    }
 
 -- it is, and what is left decides
 pub loop-i-preserved : goal.loop-i-preserved

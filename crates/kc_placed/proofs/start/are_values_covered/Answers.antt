@@ -12,7 +12,7 @@ use Rattle.kc_placed.proofs.start.are_values_covered.Goals as goal
 pub returns : goal.returns
 unfolding every_slot
 returns c =
-    c.are_slots_covered.ensures
+    c.are_slots_covered.ensures.value
     ∙ ap (λ (l : List AbsValue). rows_below value_below l c.args.slots.now)
     (same-redone (start_slot c.args.cfg.now) 0 c.args.slots.now (every_slot value_top)
     (c.whole.ensures.count ∙ sym (length-replicate 296 value_top)))
