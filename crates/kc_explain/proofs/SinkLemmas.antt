@@ -1,7 +1,7 @@
 -- Texts written one after the other. Both are written: their bytes are joined. The first one is refused: what was added
--- is a prefix of the whole too. The second one is: the first, and then a prefix of the second. `omega` is left the counts
--- and the lengths.
-use Rattle.std.proofs.Common.{◌≡◌, ◌∙◌, sym, subst, ℕ, ◌+◌, ◌≤◌, List, ◌++◌, length, take, arith}
+-- is a prefix of the whole too. The second one is: the first, and then a prefix of the second. Three texts are a first
+-- two and a last one. `omega` is left the counts and the lengths.
+use Rattle.std.proofs.Common.{◌≡◌, ◌∙◌, ℕ, ◌+◌, ◌≤◌, List, ◌++◌, length, take, arith}
 use Rattle.std.proofs.Math.Seq.{take-append-add}
 use Rattle.std.proofs.lemmas.Grind.{common_steps}
 use Rattle.std.specs.Io.KnownBytes.{Appends}
@@ -13,16 +13,23 @@ pub on_err : {A E : Type 0} (result : Result A E) (P : Type 0) → P → OnErr r
 on_err (Ok x) P p = tt
 on_err (Err e) P p = p
 
-module _ (a b : SinkState) (xs ys : List ℕ) where
-  writes_both : (c : SinkState) → Writes a b xs → Writes b c ys → Writes a c (xs ++ ys)
-  writes_both c first second = record {
-    added = Appends-both a.written b.written c.written xs ys first.added second.added;
-    quiet = second.quiet ∙ first.quiet;
-  }
+pub on_err_too : {A E : Type 0} (result : Result A E) (P Q : Type 0) → (P → Q) → OnErr result P → OnErr result Q
+on_err_too (Ok x) P Q f p = tt
+on_err_too (Err e) P Q f p = f p
 
-  -- the first text is refused, and the second one would have followed
-  pub refuses_first : Refuses a b xs → Refuses a b (xs ++ ys)
-  refuses_first refused =
+pub on_ok_too : {A E : Type 0} (result : Result A E) (P Q : Type 0) → (P → Q) → OnOk result P → OnOk result Q
+on_ok_too (Ok x) P Q f p = f p
+on_ok_too (Err e) P Q f p = tt
+
+kept_both : (a b c : SinkState) → SinkKept a b → SinkKept b c → SinkKept a c
+kept_both a b c first second =
+    record { later = omega (arith, first.later, second.later); plan = second.plan ∙ first.plan }
+
+-- two texts
+module _ (a b : SinkState) (xs ys : List ℕ) where
+  -- the first one is refused
+  pub first_refused : Refuses a b xs → Refuses a b (xs ++ ys)
+  first_refused refused =
       let n = refused.prefix.0 in
       let within : n + b.refused ≤ length xs = refused.prefix.1 in
       let cut : take n (xs ++ ys) ≡ take n xs = grind (arith, common_steps, within) in
@@ -33,8 +40,15 @@ module _ (a b : SinkState) (xs ys : List ℕ) where
         some = refused.some;
       }
 
-  refuses_second : (c : SinkState) → SinkKept a b → Writes a b xs → Refuses b c ys → Refuses a c (xs ++ ys)
-  refuses_second c kept first refused =
+  pub both_written : (c : SinkState) → Writes a b xs → Writes b c ys → Writes a c (xs ++ ys)
+  both_written c first second = record {
+    added = Appends-both a.written b.written c.written xs ys first.added second.added;
+    quiet = second.quiet ∙ first.quiet;
+  }
+
+  -- the second one is refused
+  pub second_refused : (c : SinkState) → Writes a b xs → SinkKept a b → Refuses b c ys → Refuses a c (xs ++ ys)
+  second_refused c first kept refused =
       let n = refused.prefix.0 in
       let within : n + c.refused ≤ length ys = refused.prefix.1 in
       let fits : length xs + n + c.refused ≤ length (xs ++ ys) = grind (arith, common_steps, within) in
@@ -46,16 +60,21 @@ module _ (a b : SinkState) (xs ys : List ℕ) where
         some = refused.some;
       }
 
--- the second text is the last one
-module _ {A E : Type 0} (result : Result A E) (a b c : SinkState) (xs ys : List ℕ) (first : Writes a b xs) where
-  pub all_written : OnOk result (Writes b c ys) → OnOk result (Writes a c (xs ++ ys))
-  all_written second = on_ok result second where
-    on_ok : (r : Result A E) → OnOk r (Writes b c ys) → OnOk r (Writes a c (xs ++ ys))
-    on_ok (Ok x) w = writes_both a b xs ys c first w
-    on_ok (Err e) w = tt
+-- three texts
+module _ (a b : SinkState) (xs ys zs : List ℕ) where
+  pub first_of_three_refused : Refuses a b xs → Refuses a b (xs ++ ys ++ zs)
+  first_of_three_refused refused = first_refused a b (xs ++ ys) zs (first_refused a b xs ys refused)
 
-  pub last_refused : SinkKept a b → OnErr result (Refuses b c ys) → OnErr result (Refuses a c (xs ++ ys))
-  last_refused kept second = on_error result second where
-    on_error : (r : Result A E) → OnErr r (Refuses b c ys) → OnErr r (Refuses a c (xs ++ ys))
-    on_error (Ok x) w = tt
-    on_error (Err e) w = refuses_second a b xs ys c kept first w
+  module _ (c : SinkState) (first : Writes a b xs) (kept : SinkKept a b) where
+    pub second_of_three_refused : Refuses b c ys → Refuses a c (xs ++ ys ++ zs)
+    second_of_three_refused refused =
+        first_refused a c (xs ++ ys) zs (second_refused a b xs ys c first kept refused)
+
+    module _ (d : SinkState) (second : Writes b c ys) where
+      pub three_written : Writes c d zs → Writes a d (xs ++ ys ++ zs)
+      three_written third = both_written a c (xs ++ ys) zs d (both_written a b xs ys c first second) third
+
+      pub third_refused : SinkKept b c → Refuses c d zs → Refuses a d (xs ++ ys ++ zs)
+      third_refused kept-2 refused =
+          second_refused a c (xs ++ ys) zs d (both_written a b xs ys c first second) (kept_both a b c kept kept-2)
+          refused

@@ -1,5 +1,5 @@
--- What a refusal is explained by, this project's own: the line of the refusal; at a node its instruction and what is known
--- there; and what the condition asks. Each line ends with one byte 0A.
+-- What a refusal is explained by, this project's own: the line of the refusal; at a node its instruction and what is
+-- known there; and what the condition asks. Each line ends with one byte 0A.
 use Rattle.std.specs.Prelude.{ℕ, List, [], ◌∷◌, ◌++◌, codes, get_or, slice_index_or, Option, Some, None}
 use Rattle.kc_bits.specs.Bits.{bits_single}
 use Rattle.kc_image.specs.Image.{Contents}

@@ -1,11 +1,11 @@
 //! The explanation of a refusal.
 
-ghost use Rattle.std.specs.Prelude.{◌≡◌, ◌++◌, codes, OnOk, OnErr};
+ghost use Rattle.std.specs.Prelude.{◌≡◌, OnOk, OnErr};
 ghost use Rattle.std.specs.Option.{option_copied};
 ghost use Rattle.kc_io.specs.Sink.{SinkKept, Writes, Refuses};
 ghost use Rattle.kc_cert.specs.Code.{insn_at};
 ghost use Rattle.kc_cert.specs.Table.{is_at, node_at, position_numbers};
-ghost use Rattle.kc_explain.specs.Explanation.{instruction_text, instruction_line, node_lines, spot_lines, explanation, because_line};
+ghost use Rattle.kc_explain.specs.Explanation.{instruction_text, instruction_line, node_lines, spot_lines, explanation};
 
 use crate::because::write_because;
 use crate::known::write_state;

@@ -175,16 +175,28 @@ fn write_nmi<S: Sink>(out: &mut S, blocked: Tri) -> Result<(), Failed>
 }
 
 /// Writes what is known of RSP.
-fn write_rsp<S: Sink>(out: &mut S, rsp: &Value) -> Result<(), Failed>
-    ensures all { OnOk result (Writes (S.state out.old) (S.state out.new) (rsp_line rsp.now)) }
-    ensures part { OnErr result (Refuses (S.state out.old) (S.state out.new) (rsp_line rsp.now)) }
+fn write_rsp<S: Sink>(out: &mut S, state: &AbsState) -> Result<(), Failed>
+    ensures all { OnOk result (Writes (S.state out.old) (S.state out.new) (rsp_line (rsp_of state.now))) }
+    ensures part { OnErr result (Refuses (S.state out.old) (S.state out.new) (rsp_line (rsp_of state.now))) }
     ensures kept { SinkKept (S.state out.old) (S.state out.new) }
 {
     let mut line = Line::new();
     put(&mut line, "rsp ");
-    put_value(&mut line, rsp);
+    put_value(&mut line, &rsp_of(state));
     put(&mut line, "\n");
     write_all(out, &line)
+}
+
+/// Writes the lines of the GS bases and of CR3.
+fn write_spaces<S: Sink>(out: &mut S, state: &AbsState) -> Result<(), Failed>
+    ensures all { OnOk result
+        (Writes (S.state out.old) (S.state out.new) (gs_line state.now.gs ++ map_line state.now.map)) }
+    ensures part { OnErr result
+        (Refuses (S.state out.old) (S.state out.new) (gs_line state.now.gs ++ map_line state.now.map)) }
+    ensures kept { SinkKept (S.state out.old) (S.state out.new) }
+{
+    write_gs(out, &state.gs)?;
+    write_map(out, state.map)
 }
 
 /// Writes the lines of what is known.
@@ -193,8 +205,7 @@ pub(crate) fn write_state<S: Sink>(out: &mut S, state: &AbsState) -> Result<(), 
     ensures part { OnErr result (Refuses (S.state out.old) (S.state out.new) (state_lines state.now)) }
     ensures kept { SinkKept (S.state out.old) (S.state out.new) }
 {
-    write_gs(out, &state.gs)?;
-    write_map(out, state.map)?;
+    write_spaces(out, state)?;
     write_nmi(out, state.latches.nmi_blocked)?;
-    write_rsp(out, &rsp_of(state))
+    write_rsp(out, state)
 }

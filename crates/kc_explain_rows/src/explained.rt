@@ -1,0 +1,214 @@
+//! What `explain` writes of a refusal in a certificate of a few nodes, over the first sample. The lines are those that
+//! an independent model gives for variants of the sample's certificate; where a variant has another image, the
+//! instruction is the sample's too.
+
+use kc_abs_text::{count, site, with_all};
+use kc_cert::{Certificate, Digests, Event, Node, Refusal, Spot};
+use kc_config::read_config;
+use kc_explain::{explain, write_refusal};
+use kc_gen::{Sample, sample};
+use kc_image::{Image, read_image};
+use kc_io::MemSink;
+use kc_plain::{Items, NoMemory};
+use kc_regions::Config;
+use kc_state::{AbsState, Condition, Site, UserState};
+use kc_tables::{Case, case_of};
+use std::alloc::Global;
+use std::test::Fail;
+
+/// The condition; the spot; the vector of the event; what is known at the node, `-` where the certificate lacks it; the
+/// lines.
+const ROWS: &str = "\
+1 | table | - | - | refused C1 / because the certificate is for another image or configuration
+2 | table | - | - | refused C2 / because a key, a stack count or an entry node is missing
+3 | table | - | - | refused C3 / because the user state does not cover the start
+14 | user | 32 | - | refused C14 user event irq 32 / because an event has no permitted frame or no covering context
+14 | user | 14 | - | refused C14 user event fault / because an event has no permitted frame or no covering context
+4 | context 0 at 0xffffffff8100000f | - | gs=AU map=U latch=NNA rsp==0x1001000 | refused C4 context 0 at 0xffffffff8100000f / instruction and rsp, -0x1001 / gs active any inactive user / map user / nmi open / rsp constant 0x0000000001001000 / because the GS pair, CR3 or RSP is not exact
+4 | context 0 at 0xffffffff81000031 body | - | gs=KU map=K latch=NNA rsp=top | refused C4 context 0 at 0xffffffff81000031 body / instruction call 0xffffffff81800000 / gs active kernel inactive user / map kernel / nmi open / rsp any / because the GS pair, CR3 or RSP is not exact
+4 | context 9 at 0xffffffff81001158 | - | gs=AA map=U latch=YNA rsp==0xffffffff84005f60 | refused C4 context 9 at 0xffffffff81001158 / instruction pop r15 / gs active any inactive any / map user / nmi blocked / rsp constant 0xffffffff84005f60 / because the GS pair, CR3 or RSP is not exact
+5 | context 0 at 0xffffffff81000100 body | - | gs=KU map=K latch=NNA rsp==0xffffffff83006000 | refused C5 context 0 at 0xffffffff81000100 body / instruction test byte [rsp+0x8], 0x3 / gs active kernel inactive user / map kernel / nmi open / rsp constant 0xffffffff83006000 / because the instruction is not decodable executable text under this map
+5 | context 0 at 0xffffffff81000052 | - | gs=KU map=K latch=NNA rsp==0xffffffff83006000 | refused C5 context 0 at 0xffffffff81000052 / instruction none / gs active kernel inactive user / map kernel / nmi open / rsp constant 0xffffffff83006000 / because the instruction is not decodable executable text under this map
+6 | context 39 at 0xffffffff81000003 | - | gs=UK map=U latch=NNA rsp==0xffffffff84001fd8 | refused C6 context 39 at 0xffffffff81000003 / instruction mov gs:[0x800], rsp / gs active user inactive kernel / map user / nmi open / rsp constant 0xffffffff84001fd8 / because a GS access may use a base other than the kernel's
+7 | context 24 at 0xffffffff8100029b | - | gs=KU map=K latch=NNA rsp=b-0x20 | refused C7 context 24 at 0xffffffff8100029b / instruction iretq / gs active kernel inactive user / map kernel / nmi open / rsp base-0x20 / because an address is unknown, absent or not permitted
+8 | context 0 at 0xffffffff81000022 | - | gs=KU map=K latch=NNA rsp==0xffffffff83006000 | refused C8 context 0 at 0xffffffff81000022 / instruction push 0x2b / gs active kernel inactive user / map kernel / nmi open / rsp constant 0xffffffff83006000 / because a write may reach live stack bytes
+9 | context 0 at 0xffffffff81000045 | - | gs=KU map=K latch=NNA rsp=e4 | refused C9 context 0 at 0xffffffff81000045 / instruction mov cr3, rdx / gs active kernel inactive user / map kernel / nmi open / rsp entry rsp / because CR3 may be loaded with a third value
+10 | context 39 at 0xffffffff81000031 | - | gs=UK map=K latch=NNA rsp==0xffffffff83005fd8 | refused C10 context 39 at 0xffffffff81000031 / instruction call 0xffffffff81800000 / gs active user inactive kernel / map kernel / nmi open / rsp constant 0xffffffff83005fd8 / because a handler is called without kernel GS, kernel CR3 or a free stack
+11 | context 1 at 0xffffffff8100101c | - | gs=UK map=U latch=NNA rsp==0xffffffff84003f60 | refused C11 context 1 at 0xffffffff8100101c / instruction rdmsr / gs active user inactive kernel / map user / nmi open / rsp constant 0xffffffff84003f60 / because the instruction or register number is forbidden
+12 | context 0 at 0xffffffff81000050 | - | gs=UK map=U latch=NNA rsp=e4 | refused C12 context 0 at 0xffffffff81000050 / instruction sysretq / gs active user inactive kernel / map user / nmi open / rsp entry rsp / because the return does not restore the interrupted context
+13 | context 0 at 0xffffffff81000031 body | - | gs=KU map=K latch=NNA rsp==0xffffffff83005fd0 | refused C13 context 0 at 0xffffffff81000031 body / instruction call 0xffffffff81800000 / gs active kernel inactive user / map kernel / nmi open / rsp constant 0xffffffff83005fd0 / because a successor is not covered
+14 | context 0 at 0xffffffff81000031 body | 14 | gs=KU map=K latch=NNA rsp==0xffffffff83005fd0 | refused C14 context 0 at 0xffffffff81000031 body event fault / instruction call 0xffffffff81800000 / gs active kernel inactive user / map kernel / nmi open / rsp constant 0xffffffff83005fd0 / because an event has no permitted frame or no covering context
+14 | context 2 at 0xffffffff81001100 | 18 | gs=UK map=U latch=YNA rsp==0xffffffff84005fd8 | refused C14 context 2 at 0xffffffff81001100 event check / instruction push rax / gs active user inactive kernel / map user / nmi blocked / rsp constant 0xffffffff84005fd8 / because an event has no permitted frame or no covering context
+14 | context 0 at 0xffffffff81000000 | 1 | gs=UK map=U latch=NNA rsp=e4 | refused C14 context 0 at 0xffffffff81000000 event debug / instruction swapgs / gs active user inactive kernel / map user / nmi open / rsp entry rsp / because an event has no permitted frame or no covering context
+15 | context 0 at 0xffffffff81000024 | 2 | gs=KU map=K latch=NNA rsp==0xffffffff83005ff8 | refused C15 context 0 at 0xffffffff81000024 event nmi / instruction push gs:[0x800] / gs active kernel inactive user / map kernel / nmi open / rsp constant 0xffffffff83005ff8 / because the state after an event's return is not covered
+16 | context 0 | - | - | refused C16 context 0 / because the summary lacks a write or a latch
+17 | context 0 | - | - | refused C17 context 0 / because the user state does not cover a return
+# By the rules of the lines alone: NMIs in any state, and offsets and symbols that no refusal of the model had.
+7 | context 3 at 0xffffffff81000193 | - | gs=KU map=A latch=ANA rsp=b+0x8 | refused C7 context 3 at 0xffffffff81000193 / instruction iretq / gs active kernel inactive user / map any / nmi any / rsp base+0x8 / because an address is unknown, absent or not permitted
+7 | context 3 at 0xffffffff81000193 | - | gs=KU map=K latch=YNN rsp=b | refused C7 context 3 at 0xffffffff81000193 / instruction iretq / gs active kernel inactive user / map kernel / nmi blocked / rsp base / because an address is unknown, absent or not permitted
+7 | context 3 at 0xffffffff81000193 | - | gs=KU map=K latch=YNN rsp=ugs | refused C7 context 3 at 0xffffffff81000193 / instruction iretq / gs active kernel inactive user / map kernel / nmi blocked / rsp user gs / because an address is unknown, absent or not permitted
+7 | context 3 at 0xffffffff81000193 | - | gs=KU map=K latch=YNN rsp=e17 | refused C7 context 3 at 0xffffffff81000193 / instruction iretq / gs active kernel inactive user / map kernel / nmi blocked / rsp entry rflags / because an address is unknown, absent or not permitted
+7 | context 3 at 0xffffffff81000193 | 13 | - | refused C7 context 3 at 0xffffffff81000193 event trap 13 / because an address is unknown, absent or not permitted
+";
+
+/// The spot that a column names: `table`, `user`, a context, or a context and a site.
+fn spot_of(text: &str) -> Option<Spot> {
+    if text == "table" {
+        return Some(Spot::Table);
+    }
+    if text == "user" {
+        return Some(Spot::User);
+    }
+    let place = text.strip_prefix("context ")?;
+    match place.split_once(" at ") {
+        Some((context, at)) => Some(Spot::Node(u32::from(count(context)?), site(at)?)),
+        None => Some(Spot::Context(u32::from(count(place)?))),
+    }
+}
+
+/// The event of a vector; `-` is none.
+fn event_of(text: &str) -> Option<Option<Event>> {
+    if text == "-" {
+        return Some(None);
+    }
+    let vector = u8::try_from(count(text)?).ok()?;
+    Some(Some(Event::Vector(vector)))
+}
+
+/// A certificate without a node.
+fn empty(alloc: Global) -> Result<Certificate, NoMemory> {
+    Ok(Certificate {
+        digests: Digests {
+            image: [0; 32],
+            config: [0; 32],
+        },
+        user: UserState::new(alloc)?,
+        stacks: 5,
+        contexts: Items::new(alloc),
+        nodes: Items::new(alloc),
+    })
+}
+
+/// Adds a node of which this is known.
+fn add(
+    alloc: Global,
+    cfg: &Config,
+    cert: &mut Certificate,
+    context: u32,
+    site: Site,
+    known: &str,
+) -> Result<(), Fail> {
+    let mut state = AbsState::new(alloc)?;
+    with_all(cfg, &mut state, known).ok_or("what is known")?;
+    cert.nodes.push(Node {
+        context,
+        site,
+        state,
+    })?;
+    Ok(())
+}
+
+/// A certificate with the node at the spot, after two others: of a context more, and of the body or the call.
+fn cert_of(alloc: Global, cfg: &Config, spot: Spot, known: &str) -> Result<Certificate, Fail> {
+    let mut cert = empty(alloc)?;
+    if let Spot::Node(context, site) = spot {
+        let other = Site {
+            at: site.at,
+            inside: !site.inside,
+        };
+        add(alloc, cfg, &mut cert, context.saturating_add(1), site, "-")?;
+        add(alloc, cfg, &mut cert, context, other, "-")?;
+        if known != "-" {
+            add(alloc, cfg, &mut cert, context, site, known)?;
+        }
+    }
+    Ok(cert)
+}
+
+/// The image and the description of the first sample.
+fn first(alloc: Global) -> Result<(Image, Config), Fail> {
+    let (image, config) = sample(alloc, Sample::S1)?;
+    let image = read_image(alloc, image).ok().ok_or("the image is good")?;
+    let config = read_config(alloc, &config, &image)
+        .ok()
+        .ok_or("the description is good")?;
+    Ok((image, config))
+}
+
+/// The refusal of a row, and the column of what is known.
+fn refusal_of<'a>(case: &mut Case<'a>) -> Result<(Refusal, &'a str), Fail> {
+    let number = count(case.text()).ok_or("a condition")?;
+    let spot = spot_of(case.text()).ok_or("a spot")?;
+    let event = event_of(case.text()).ok_or("an event")?;
+    let refusal = Refusal {
+        condition: Condition(u8::try_from(number)?),
+        spot,
+        event,
+    };
+    Ok((refusal, case.text()))
+}
+
+#[test]
+fn refusals_are_explained_as_the_rows_say(rt: HostRuntime) -> Result<(), Fail> {
+    let alloc = rt.alloc();
+    let (image, config) = first(alloc)?;
+    for line in ROWS.lines() {
+        if let Some(mut case) = case_of(line) {
+            let (refusal, known) = refusal_of(&mut case)?;
+            let cert = cert_of(alloc, &config, refusal.spot, known)?;
+            let due = case.lines(alloc)?;
+            let mut out = MemSink::new(alloc, 1_000, Vec::new(alloc))?;
+            assert!(rt;
+                explain(&image, &config, &cert, &refusal, &mut out).is_ok(),
+                "{line}"
+            );
+            assert!(rt; out.bytes() == due.as_bytes(), "{line}");
+            let (head, _) = due.as_str().split_once('\n').ok_or("a line")?;
+            let mut out = MemSink::new(alloc, 1_000, Vec::new(alloc))?;
+            assert!(rt;
+                write_refusal(&config, &refusal, &mut out).is_ok(),
+                "{line}"
+            );
+            assert!(rt;
+                out.bytes() == format!(in alloc; "{head}\n")?.as_bytes(),
+                "{line}"
+            );
+        }
+    }
+    Ok(())
+}
+
+/// A refusal at a node, and what is known there.
+const AT_A_NODE: &str = "9 | context 0 at 0xffffffff81000045 | - | gs=KU map=K latch=NNA rsp=e4";
+
+/// Its lines, each and all.
+const LINES: [&str; 7] = [
+    "refused C9 context 0 at 0xffffffff81000045\n",
+    "instruction mov cr3, rdx\n",
+    "gs active kernel inactive user\n",
+    "map kernel\n",
+    "nmi open\n",
+    "rsp entry rsp\n",
+    "because CR3 may be loaded with a third value\n",
+];
+
+#[test]
+fn nothing_follows_a_refused_line(rt: HostRuntime) -> Result<(), Fail> {
+    let alloc = rt.alloc();
+    let (image, config) = first(alloc)?;
+    let mut case = case_of(AT_A_NODE).ok_or("a case")?;
+    let (refusal, known) = refusal_of(&mut case)?;
+    let cert = cert_of(alloc, &config, refusal.spot, known)?;
+    let mut due = String::new(alloc);
+    for (i, line) in LINES.iter().enumerate() {
+        // The instruction's line is written in three pieces.
+        let write = if i < 2 { i } else { i + 2 };
+        let mut failing = Vec::new(alloc);
+        failing.push(write as u64)?;
+        let mut out = MemSink::new(alloc, 1_000, failing)?;
+        assert!(rt; explain(&image, &config, &cert, &refusal, &mut out).is_err());
+        assert!(rt; out.bytes() == due.as_bytes());
+        due.push_str(line)?;
+    }
+    Ok(())
+}
