@@ -1,3 +1,4 @@
 pub mod Image
 pub mod Texts
 pub mod Samples
+pub mod Generated

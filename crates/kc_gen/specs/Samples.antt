@@ -152,12 +152,17 @@ user_cr3 = read_cr3 rax ∷ or rax (pos 0x1000) ∷ write_cr3 rax ∷ []
 
 -- ---- entries
 
-abbrev pub syscall_entry : List Line
-syscall_entry =
+-- a frame as an interrupt's on the kernel's stack
+abbrev pub syscall_frame : List Line
+syscall_frame =
     At 0xffffffff81000000 ∷ swapgs ∷ store (per_cpu 0x800) rsp ∷ read_cr3 rsp ∷ and rsp (negsuc 0x1000) ∷ write_cr3
     rsp ∷ load rsp (per_cpu 0x808)
-    ∷ push_number 0x2b ∷ push_from (per_cpu 0x800) ∷ push r11 ∷ push_number 0x33 ∷ push rcx
-    ∷ call 0xffffffff81800000
+    ∷ push_number 0x2b ∷ push_from (per_cpu 0x800) ∷ push r11 ∷ push_number 0x33 ∷ push rcx ∷ []
+
+-- the handler, and the way back to the user
+abbrev pub syscall_handler : List Line
+syscall_handler =
+    call 0xffffffff81800000
     ∷ pop rcx ∷ pop rdx ∷ pop r11 ∷ read_cr3 rdx ∷ or rdx (pos 0x1000) ∷ pop rsp ∷ write_cr3 rdx ∷ put_long rdx
     0 ∷ swapgs ∷ sysretq ∷ []
 
@@ -218,12 +223,16 @@ moving_nmi_entry =
 abbrev pub load_address : ℕ
 load_address = 0xffffffff81000000
 
+-- the entries of S1 but for the SYSCALL routine
+abbrev pub s1_events : List Line
+s1_events = interrupt_entry ++ page_fault_entry ++ debug_entry ++ nmi_entry ++ machine_check_entry
+
 abbrev pub s1_lines : List Line
-s1_lines = syscall_entry ++ interrupt_entry ++ page_fault_entry ++ debug_entry ++ nmi_entry ++ machine_check_entry
+s1_lines = syscall_frame ++ syscall_handler ++ s1_events
 
 abbrev pub s2_lines : List Line
-s2_lines = syscall_entry ++ interrupt_entry ++ page_fault_entry ++ debug_entry ++ moving_nmi_entry ++
-    machine_check_entry
+s2_lines = syscall_frame ++ syscall_handler ++ interrupt_entry ++ page_fault_entry ++ debug_entry ++
+    moving_nmi_entry ++ machine_check_entry
 
 -- S0 is a jump to itself, EB FE
 unfoldable pub sample_image : Sample → List ℕ
@@ -232,11 +241,11 @@ sample_image S1 = image_of load_address s1_lines
 sample_image S2 = image_of load_address s2_lines
 
 unfoldable pub sample_config : Sample → List ℕ
-sample_config S0 = text.head ++ text.quiet_entry ++ text.stacks ++ text.user ++ text.one_entry_gates ++ text.cpu
+sample_config S0 =
+    text.head ++ text.quiet_entry ++ text.quiet_region ++ text.stacks ++ text.user ++ text.one_entry_gates ++ text.cpu
 sample_config S1 =
-    text.head ++ text.entry ++ text.stacks ++ text.user ++ text.gates ++ text.handlers ++ text.nmi_handler ++
-    text.other_handlers ++ text.cpu
+    text.head ++ text.entry ++ text.quiet_region ++ text.stacks ++ text.user ++ text.gates ++ text.handlers ++
+    text.nmi_handler ++ text.other_handlers ++ text.cpu
 sample_config S2 =
-    text.head ++ text.quiet_entry ++ text.stacks ++ text.work_stack ++ text.user ++ text.gates ++ text.handlers ++
-    text.faulting_nmi_handler
-    ++ text.other_handlers ++ text.cpu
+    text.head ++ text.quiet_entry ++ text.quiet_region ++ text.stacks ++ text.work_stack ++ text.user ++ text.gates ++
+    text.handlers ++ text.faulting_nmi_handler ++ text.other_handlers ++ text.cpu

@@ -17,10 +17,19 @@ abbrev pub quiet_entry : List ℕ
 quiet_entry =
     codes " {name=\"entry\", at=\"0xffffffff81000000\", size=\"0x1000\", kind=\"text\", exec=true, user_map=true, quiet=true},\n"
 
--- the text of the entries with stacks of their own, the area, and the stacks with their guards
+-- the text of the entries with stacks of their own
+abbrev pub quiet_region : List ℕ
+quiet_region =
+    codes " {name=\"quiet\", at=\"0xffffffff81001000\", size=\"0x1000\", kind=\"text\", exec=true, user_map=true, quiet=true},\n"
+
+-- the text of the generated instructions
+abbrev pub generated_region : List ℕ
+generated_region =
+    codes " {name=\"gen\", at=\"0xffffffff81100000\", size=\"0x10000\", kind=\"text\", exec=true},\n"
+
+-- the area, and the stacks with their guards
 abbrev pub stacks : List ℕ
 stacks =
-    codes " {name=\"quiet\", at=\"0xffffffff81001000\", size=\"0x1000\", kind=\"text\", exec=true, user_map=true, quiet=true},\n" ++
     codes " {name=\"area\", at=\"0xffffffff82000000\", size=\"0x3000\", kind=\"area\", write=true, user_map=true},\n" ++
     codes " {name=\"kg\", at=\"0xffffffff83001000\", size=\"0x1000\", kind=\"guard\"},\n" ++
     codes " {name=\"k\", at=\"0xffffffff83002000\", size=\"0x4000\", kind=\"stack\", write=true, marked=true},\n" ++

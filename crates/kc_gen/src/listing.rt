@@ -282,8 +282,8 @@ const DROP_ERROR_CODE: &[Line] = &[
     )),
 ];
 
-// From SYSCALL to SYSRETQ: a frame as an interrupt's on the kernel's stack, and the handler.
-const SYSCALL_ENTRY: &[Line] = &[
+/// From SYSCALL on: a frame as an interrupt's on the kernel's stack.
+pub const SYSCALL_FRAME: &[Line] = &[
     At(SYSCALL),
     // swapgs
     Code(Insn::Swapgs),
@@ -312,6 +312,10 @@ const SYSCALL_ENTRY: &[Line] = &[
     Code(Insn::Push(Source::Imm(0x33))),
     // push rcx
     Code(Insn::Push(Source::Reg(Reg::RCX))),
+];
+
+// The handler of SYSCALL, and the way back up to SYSRETQ.
+const SYSCALL_HANDLER: &[Line] = &[
     // call ON_SYSCALL
     Code(Insn::Call(ON_SYSCALL)),
     // pop rcx
@@ -615,9 +619,9 @@ const MOVING_NMI_ENTRY: &[Line] = &[
     Code(Insn::Push(Source::Mem(RAX_0))),
 ];
 
-/// The entries of S1, in the order of their addresses.
-pub const S1_PARTS: &[&[Line]] = &[
-    SYSCALL_ENTRY,
+/// The entries of S1 after SYSCALL_FRAME, in the order of their addresses.
+pub const S1_AFTER_FRAME: &[&[Line]] = &[
+    SYSCALL_HANDLER,
     INTERRUPT_ENTRY,
     PUSH_RAX,
     PUSH_OTHERS,
@@ -679,9 +683,9 @@ pub const S1_PARTS: &[&[Line]] = &[
     CALL_ON_MACHINE_CHECK_IN_KERNEL,
 ];
 
-/// The entries of S2: those of S1, with another NMI entry.
-pub const S2_PARTS: &[&[Line]] = &[
-    SYSCALL_ENTRY,
+/// The same of S2: its NMI entry is another one.
+pub const S2_AFTER_FRAME: &[&[Line]] = &[
+    SYSCALL_HANDLER,
     INTERRUPT_ENTRY,
     PUSH_RAX,
     PUSH_OTHERS,

@@ -1,55 +1,40 @@
 //! The samples: small kernels' entry code with the configuration that describes them.
 
 ghost use Rattle.std.specs.Prelude.{◌≡◌, IfOk};
-ghost use Rattle.std.specs.List.{flat_map};
 ghost use Rattle.kc_gen.specs.declared.kind.Sample.TheVariants.{S0, S1, S2};
 ghost use Rattle.kc_gen.specs.Samples.{s1_lines, s2_lines, sample_image, sample_config};
 
 use crate::image::assemble;
 use crate::kind::Sample;
 use crate::line::Line;
-use crate::listing::{S1_PARTS, S2_PARTS};
+use crate::listing::{S1_AFTER_FRAME, S2_AFTER_FRAME, SYSCALL_FRAME};
+use crate::parts::{joined_text, put_parts};
 use crate::texts::{
     CPU, ENTRY, FAULTING_NMI_HANDLER, GATES, HANDLERS, HEAD, NMI_HANDLER, ONE_ENTRY_GATES,
-    OTHER_HANDLERS, QUIET_ENTRY, STACKS, USER, WORK_STACK,
+    OTHER_HANDLERS, QUIET_ENTRY, QUIET_REGION, STACKS, USER, WORK_STACK,
 };
 use kc_plain::NoMemory;
 use std::alloc::Global;
 
-const LOAD: u64 = 0xffff_ffff_8100_0000;
-
-/// The lines of these parts, one part after the other.
-fn joined(alloc: Global, parts: &[&[Line]]) -> Result<Vec<Line>, NoMemory>
-    ensures { IfOk result (λ v. v.items ≡ flat_map (λ p. p.now) parts.now) }
-{
-    let mut lines = Vec::new(alloc);
-    for part in parts {
-        lines.extend_from_slice(part)?;
-    }
-    Ok(lines)
-}
-
-/// The text of these parts, one part after the other.
-fn joined_text(alloc: Global, parts: &[&str]) -> Result<Vec<u8>, NoMemory>
-    ensures { IfOk result (λ v. v.items ≡ flat_map (λ p. p.now) parts.now) }
-{
-    let mut text = Vec::new(alloc);
-    for part in parts {
-        text.extend_from_slice(part.as_bytes())?;
-    }
-    Ok(text)
-}
+/// Where the code of each sample begins.
+pub const LOAD: u64 = 0xffff_ffff_8100_0000;
 
 fn s1_lines(alloc: Global) -> Result<Vec<Line>, NoMemory>
     ensures { IfOk result (λ v. v.items ≡ s1_lines) }
 {
-    joined(alloc, S1_PARTS)
+    let mut lines = Vec::new(alloc);
+    put_parts(&mut lines, &[SYSCALL_FRAME])?;
+    put_parts(&mut lines, S1_AFTER_FRAME)?;
+    Ok(lines)
 }
 
 fn s2_lines(alloc: Global) -> Result<Vec<Line>, NoMemory>
     ensures { IfOk result (λ v. v.items ≡ s2_lines) }
 {
-    joined(alloc, S2_PARTS)
+    let mut lines = Vec::new(alloc);
+    put_parts(&mut lines, &[SYSCALL_FRAME])?;
+    put_parts(&mut lines, S2_AFTER_FRAME)?;
+    Ok(lines)
 }
 
 fn s0_image(alloc: Global) -> Result<Vec<u8>, NoMemory>
@@ -90,13 +75,22 @@ fn config(alloc: Global, which: Sample) -> Result<Vec<u8>, NoMemory>
     match which {
         Sample::S0 => joined_text(
             alloc,
-            &[HEAD, QUIET_ENTRY, STACKS, USER, ONE_ENTRY_GATES, CPU],
+            &[
+                HEAD,
+                QUIET_ENTRY,
+                QUIET_REGION,
+                STACKS,
+                USER,
+                ONE_ENTRY_GATES,
+                CPU,
+            ],
         ),
         Sample::S1 => joined_text(
             alloc,
             &[
                 HEAD,
                 ENTRY,
+                QUIET_REGION,
                 STACKS,
                 USER,
                 GATES,
@@ -111,6 +105,7 @@ fn config(alloc: Global, which: Sample) -> Result<Vec<u8>, NoMemory>
             &[
                 HEAD,
                 QUIET_ENTRY,
+                QUIET_REGION,
                 STACKS,
                 WORK_STACK,
                 USER,

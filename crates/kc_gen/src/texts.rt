@@ -15,10 +15,19 @@ pub const QUIET_ENTRY: &str =
     r#" {name="entry", at="0xffffffff81000000", size="0x1000", kind="text", exec=true, user_map=true, quiet=true},
 "#;
 
-/// The text of the entries with stacks of their own, the area, and the stacks with their guards.
-pub const STACKS: &str =
+/// The text of the entries with stacks of their own.
+pub const QUIET_REGION: &str =
     r#" {name="quiet", at="0xffffffff81001000", size="0x1000", kind="text", exec=true, user_map=true, quiet=true},
- {name="area", at="0xffffffff82000000", size="0x3000", kind="area", write=true, user_map=true},
+"#;
+
+/// The text of the generated instructions.
+pub const GENERATED_REGION: &str =
+    r#" {name="gen", at="0xffffffff81100000", size="0x10000", kind="text", exec=true},
+"#;
+
+/// The area, and the stacks with their guards.
+pub const STACKS: &str =
+    r#" {name="area", at="0xffffffff82000000", size="0x3000", kind="area", write=true, user_map=true},
  {name="kg", at="0xffffffff83001000", size="0x1000", kind="guard"},
  {name="k", at="0xffffffff83002000", size="0x4000", kind="stack", write=true, marked=true},
  {name="tg", at="0xffffffff84000000", size="0x1000", kind="guard"},

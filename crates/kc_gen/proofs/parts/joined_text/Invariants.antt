@@ -1,6 +1,6 @@
 use Rattle.std.proofs.Common.{◌≡◌, ◌++◌, drop}
 use Rattle.std.specs.List.{flat_map}
-use Rattle.kc_gen.proofs.samples.joined_text.Given as goal
+use Rattle.kc_gen.proofs.parts.joined_text.Given as goal
 
 -- what is joined and the parts that are left give all
 abbrev pub invariant-loop-part : goal.invariant-loop-part
