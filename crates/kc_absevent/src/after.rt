@@ -1,6 +1,6 @@
 //! What is known after the return of an event. This project's own.
 
-ghost use Rattle.std.specs.Prelude.{◌≡◌, ◌<◌, ◌&&◌, not, Option};
+ghost use Rattle.std.specs.Prelude.{◌≡◌, ◌<◌, ◌%◌, ◌&&◌, not, Option};
 ghost use Rattle.kc_regions.specs.Region.{stack_of};
 ghost use Rattle.kc_value.specs.Made.{IsPlace};
 ghost use Rattle.kc_state.specs.declared.key.Key.{Key as KeyValue};
@@ -69,8 +69,20 @@ fn loses_byte(cfg: &Config, rsp: Option<Location>, c: &Clobber, a: u64, at: u64)
     is_clobbered(c, stack) && !is_protected(cfg, rsp, a, stack)
 }
 
+// A word at a multiple of 8 lies in one stack or in none, as its first byte does: stacks begin and end at
+// multiples of 16.
+#[tactic(auto, using(crate::proofs::WordLemmas::first_decides))]
+fn loses_aligned(cfg: &Config, rsp: Option<Location>, c: &Clobber, a: u64) -> bool
+    requires { a % 8 ≡ 0 }
+    ensures { result ≡ loses_bytes cfg.now rsp c.now a a 8 }
+{
+    cfg.tell();
+    loses_byte(cfg, rsp, c, a, a)
+}
+
+// Byte by byte.
 #[tactic(auto, using(crate::proofs::ByteLemmas::loses_first, crate::proofs::ByteLemmas::loses_none))]
-fn loses_bytes(cfg: &Config, rsp: Option<Location>, c: &Clobber, a: u64) -> bool
+fn loses_one(cfg: &Config, rsp: Option<Location>, c: &Clobber, a: u64) -> bool
     ensures { result ≡ loses_bytes cfg.now rsp c.now a a 8 }
 {
     let mut at = a;
@@ -83,6 +95,16 @@ fn loses_bytes(cfg: &Config, rsp: Option<Location>, c: &Clobber, a: u64) -> bool
         left -= 1;
     }
     false
+}
+
+fn loses_bytes(cfg: &Config, rsp: Option<Location>, c: &Clobber, a: u64) -> bool
+    ensures { result ≡ loses_bytes cfg.now rsp c.now a a 8 }
+{
+    if a % 8 == 0 {
+        loses_aligned(cfg, rsp, c, a)
+    } else {
+        loses_one(cfg, rsp, c, a)
+    }
 }
 
 // Whether the word of a base or marked slot may have changed, where `home` says so of the key's stack.

@@ -1,6 +1,6 @@
 use Rattle.std.proofs.Common.{◌≡◌}
 use Rattle.kc_state.specs.AbsReturn.{loses_bytes}
-use Rattle.kc_absevent.proofs.after.loses_bytes.Given as goal
+use Rattle.kc_absevent.proofs.after.loses_one.Given as goal
 
 -- what is left decides
 abbrev pub invariant-loop-left : goal.invariant-loop-left
