@@ -8,3 +8,6 @@ pub mod SlotLemmas
 pub mod StackLemmas
 pub mod ValueForms
 pub mod MomentForms
+pub mod PartLemmas
+pub mod ApartLemmas
+pub mod LoadLemmas

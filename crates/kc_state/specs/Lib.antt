@@ -5,6 +5,7 @@ pub mod Marks
 pub mod Access
 pub mod Shift
 pub mod Memory
+pub mod PartSteps
 pub mod WellFormed
 pub mod State
 pub mod Summary

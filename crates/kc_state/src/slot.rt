@@ -4,15 +4,17 @@ ghost use Rattle.std.specs.Prelude.{◌≡◌, ◌≤◌, ◌<◌, ◌*◌, ◌/
 ghost use Rattle.kc_words.specs.Flags.{bits_of};
 ghost use Rattle.kc_frames.specs.Slots.{redone};
 ghost use Rattle.kc_state.specs.Memory.{distance, offset_in, bits_from, part_of, loaded, is_below, meets, meets_word, is_same_stack, is_just, stored};
+ghost use Rattle.kc_state.specs.PartSteps.{IsLoaded};
 ghost use Rattle.kc_state.specs.Places.{location_stack};
 
 use crate::key::Key;
 use crate::location::Location;
+use crate::parts::{PartChange, redo_parts};
 use crate::places::stack_at;
 use crate::shifts::derived;
 use crate::slot_words::SlotWords;
 use kc_bits::Bits;
-use kc_frames::{Change, Slots};
+use kc_frames::Slots;
 use kc_regions::Config;
 use kc_value::Value;
 use kc_words::Width;
@@ -24,14 +26,52 @@ pub fn load(cfg: &Config, key: &Key, slots: &Slots<Value>, l: Location, width: W
     ensures value { result ≡ loaded cfg.now key.now l (bits_of width / 8) slots.now }
 {
     slots.whole();
-    let size = size_of(width);
     let words = SlotWords::of(cfg, key);
-    for i in 0..296 {
-        if let Some(off) = offset_in(l, size, words.at(i)) {
-            return part_of(cfg, width, slots.get(i), off);
+    for part in 0..37 {
+        if let Some(v) = load_part(&words, slots, l, width, part) {
+            return v;
         }
     }
     derived(cfg, &Bits { zeros: 0, ones: 0 }.cut(width))
+}
+
+// The same of the eight slots of a part; none where none of their words holds the bytes.
+fn load_part(
+    words: &SlotWords,
+    slots: &Slots<Value>,
+    l: Location,
+    width: Width,
+    part: u16,
+) -> Option<Value>
+    requires { part < 37 }
+    ensures { IsLoaded words.now.cfg.now words.now.key.now l (bits_of width / 8) part slots.now result }
+{
+    slots.whole();
+    if words.is_apart(l, u32::from(size_of(width)), part) {
+        return None;
+    }
+    find_in(words, slots, l, width, part)
+}
+
+// By the least slot of the part whose word holds the bytes.
+fn find_in(
+    words: &SlotWords,
+    slots: &Slots<Value>,
+    l: Location,
+    width: Width,
+    part: u16,
+) -> Option<Value>
+    requires { part < 37 }
+    ensures { IsLoaded words.now.cfg.now words.now.key.now l (bits_of width / 8) part slots.now result }
+{
+    slots.whole();
+    let size = size_of(width);
+    for i in 8 * part..8 * part + 8 {
+        if let Some(off) = offset_in(l, size, words.at(i)) {
+            return Some(part_of(words.cfg, width, slots.get(i), off));
+        }
+    }
+    None
 }
 
 fn size_of(width: Width) -> u8
@@ -96,13 +136,14 @@ fn bits_from(bits: &Bits, off: u8) -> Bits
 pub fn store(cfg: &Config, key: &Key, slots: &mut Slots<Value>, l: Location, size: u8, v: &Value)
     ensures value { slots.new ≡ redone (stored cfg.now key.now l size v.now) 0 slots.old }
 {
-    slots.redo(&Stored {
+    let stored = Stored {
         words: SlotWords::of(cfg, key),
         l,
         stack: stack_at(cfg, key, l),
         size,
         v: *v,
-    });
+    };
+    redo_parts(slots, &stored);
 }
 
 #[derive(Drop)]
@@ -115,7 +156,7 @@ struct Stored<'a> {
     ghost its_stack: { stack ≡ location_stack words.cfg.now words.key.now (Some l) },
 }
 
-impl<'a> Change<Value> for Stored<'a> {
+impl<'a> PartChange for Stored<'a> {
     ghost changed = { λ s. stored s.words.cfg.now s.words.key.now s.l s.size s.v };
 
     fn at(&self, i: u16, old: &Value) -> Value {
@@ -127,6 +168,11 @@ impl<'a> Change<Value> for Stored<'a> {
         } else {
             *old
         }
+    }
+
+    fn keeps(&self, part: u16) -> bool {
+        let words = &self.words;
+        words.misses(self.stack, self.l, u32::from(self.size), part)
     }
 }
 

@@ -1,9 +1,10 @@
 //! Where the words of the slots lie in a context, with the marked stacks looked up once. This project's
 //! own.
 
-ghost use Rattle.std.specs.Prelude.{◌≡◌, ◌<◌, ◌≤◌};
+ghost use Rattle.std.specs.Prelude.{◌≡◌, ◌<◌, ◌≤◌, ◌+◌, ◌-◌, ◌*◌, ◌^◌, true, length, nat_le};
 ghost use Rattle.kc_state.specs.Marks.{mark_in, marks_of};
 ghost use Rattle.kc_state.specs.Memory.{is_marked_slot, hits};
+ghost use Rattle.kc_state.specs.PartSteps.{hits_stack, AreApart, IsApartFrom, IsApart, IsMissed};
 ghost use Rattle.kc_state.specs.Places.{marked_word, word_of};
 
 use crate::key::Key;
@@ -101,15 +102,11 @@ impl<'a> SlotWords<'a> {
         }
     }
 
-    /// Whether a change of the `size` bytes at `l`, which belong to this stack, may change the word of
-    /// slot `i`.
-    pub fn hits(&self, stack: Option<u8>, l: Location, size: u32, i: u16) -> bool
+    // What a change at `l`, in this stack, may change in slot `i`, wherever its word lies.
+    fn hits_stack(&self, stack: Option<u8>, l: Location, i: u16) -> bool
         requires { i < 296 }
-        ensures value { result ≡ hits self.now.cfg.now self.now.key.now stack l size i }
+        ensures { result ≡ hits_stack self.now.cfg.now self.now.key.now stack l i }
     {
-        if meets_word(l, size, self.at(i)) {
-            return true;
-        }
         let key = self.key;
         match l {
             Location::Number(_) => {
@@ -117,6 +114,79 @@ impl<'a> SlotWords<'a> {
             }
             Location::Relative(_) => self.is_marked_slot(key.stack, i),
         }
+    }
+
+    /// Whether a change of the `size` bytes at `l`, which belong to this stack, may change the word of
+    /// slot `i`.
+    #[tactic(auto, using(crate::proofs::ApartLemmas::hit_by))]
+    pub fn hits(&self, stack: Option<u8>, l: Location, size: u32, i: u16) -> bool
+        requires { i < 296 }
+        ensures value { result ≡ hits self.now.cfg.now self.now.key.now stack l size i }
+    {
+        meets_word(l, size, self.at(i)) || self.hits_stack(stack, l, i)
+    }
+
+    // Whether part 1 to 4 has no tracked word, or part 0 to 4 no offset.
+    fn is_near_apart(&self, l: Location, size: u32, part: u16) -> bool
+        requires { part < 5 }
+        ensures { result ≡ true → IsApart self.now.cfg.now self.now.key.now l size part }
+    {
+        let cfg = self.cfg;
+        match l {
+            Location::Relative(_) => true,
+            Location::Number(_) => part != 0 && is_past_words(cfg, part),
+        }
+    }
+
+    // Whether the bytes are known to meet none of the words of the part.
+    pub(crate) fn is_apart(&self, l: Location, size: u32, part: u16) -> bool
+        requires { part < 37 }
+        ensures { result ≡ true → IsApart self.now.cfg.now self.now.key.now l size part }
+    {
+        if part < 5 {
+            self.is_near_apart(l, size, part)
+        } else {
+            is_apart_from(l, size, self.at(8 * part + 7))
+        }
+    }
+
+    /// Whether such a change is known to change no word of the slots from 8 `part` to 8 `part` + 7.
+    pub fn misses(&self, stack: Option<u8>, l: Location, size: u32, part: u16) -> bool
+        requires { part < 37 }
+        ensures missed { result ≡ true → IsMissed self.now.cfg.now self.now.key.now stack l size part }
+    {
+        if self.hits_stack(stack, l, 8 * part) {
+            return false;
+        }
+        self.is_apart(l, size, part)
+    }
+}
+
+// Whether the description has no word for the slots of the part.
+fn is_past_words(cfg: &Config, part: u16) -> bool
+    requires { (1 ≤ part) × (part < 5) }
+    ensures { result ≡ nat_le (length cfg.now.words) (8 * part - 8) }
+{
+    cfg.words.len() <= usize::from(8 * part - 8)
+}
+
+// Whether the `size` bytes at `a` have none in common with the 64 bytes at `b`.
+fn are_apart(a: u64, size: u32, b: u64) -> bool
+    ensures { result ≡ true → AreApart a size b }
+{
+    64 <= a.wrapping_sub(b) && u64::from(size) <= b.wrapping_sub(a)
+}
+
+// Whether the bytes at `l` have none in common with the 64 bytes from `low` on.
+fn is_apart_from(l: Location, size: u32, low: Option<Location>) -> bool
+    ensures { result ≡ true → IsApartFrom l size low }
+{
+    match (l, low) {
+        (Location::Number(a), Some(Location::Number(b))) => are_apart(a, size, b),
+        (Location::Relative(k), Some(Location::Relative(j))) => {
+            are_apart(k.cast_unsigned(), size, j.cast_unsigned())
+        }
+        _ => true,
     }
 }
 
