@@ -1,7 +1,7 @@
 -- A change that meets none of the 64 bytes from the lowest word of a part on meets none of its words: the eight words of
 -- a part below the base or below the top of a marked stack follow each other, 8 bytes apart, modulo 2^64. An offset is
 -- its number modulo 2^64. In the parts before those the words are numbers, and past the last tracked word there is none.
-use Rattle.std.proofs.Common.{◌≡◌, ℕ, zero, suc, ◌+◌, ◌-◌, ◌*◌, ◌/◌, ◌%◌, ◌^◌, ◌<◌, ◌≤◌, Bool, true, false, cond, ◌&&◌, ◌||◌, List, length, slice_get, Option, Some, None, option_map, ℤ, pos, neg_ℤ, refl, sym, ap, ◌∙◌, subst, arith}
+use Rattle.std.proofs.Common.{◌≡◌, ℕ, zero, suc, ◌+◌, ◌-◌, ◌*◌, ◌/◌, ◌%◌, ◌^◌, ◌<◌, ◌≤◌, Bool, true, false, cond, ◌&&◌, ◌||◌, length, slice_get, Option, Some, None, option_map, ℤ, pos, neg_ℤ, refl, sym, ap, ◌∙◌, subst, arith}
 use Rattle.std.specs.Prelude.{not, ◌==◌, nat_le, nat_lt}
 use Rattle.std.specs.Int.{w64, cast_unsigned}
 use Rattle.std.proofs.Math.Bool.{and-false}

@@ -1,6 +1,5 @@
-use Rattle.std.proofs.Common.{◌≡◌, ◌+◌, ◌*◌, ◌≤◌, length, sym, ap, ◌∙◌, arith}
+use Rattle.std.proofs.Common.{◌≡◌, ◌+◌, ◌*◌, ap, ◌∙◌, arith}
 use Rattle.kc_state.specs.PartSteps.{changed_from}
-use Rattle.kc_state.proofs.PartLemmas.{changed_all}
 use Rattle.kc_state.proofs.parts.redo_parts.Goals as goal
 
 pub loop-part-preserved : goal.loop-part-preserved

@@ -1,4 +1,4 @@
-use Rattle.std.proofs.Common.{◌≡◌, ℕ, ◌+◌, ◌*◌, ◌/◌, ◌<◌, ◌≤◌, Some, None, length, get_or, drop, sym, ap, ◌∙◌, rules, arith}
+use Rattle.std.proofs.Common.{◌≡◌, ℕ, ◌+◌, ◌*◌, ◌/◌, ◌<◌, Some, None, length, get_or, drop, sym, ap, ◌∙◌, rules, arith}
 use Rattle.kc_value.specs.Value.{value_top}
 use Rattle.kc_words.specs.Flags.{bits_of}
 use Rattle.kc_state.specs.Memory.{offset_in, part_of, loaded_or, loaded_from}

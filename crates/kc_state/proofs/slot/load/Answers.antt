@@ -1,4 +1,4 @@
-use Rattle.std.proofs.Common.{◌≡◌, ℕ, ◌+◌, ◌*◌, ◌/◌, ◌≤◌, Some, None, length, drop, sym, ap, ◌∙◌, subst, rules, arith}
+use Rattle.std.proofs.Common.{◌≡◌, ℕ, ◌+◌, ◌*◌, ◌/◌, ◌≤◌, None, length, drop, sym, ap, ◌∙◌, rules, arith}
 use Rattle.kc_bits.specs.Bits.{bits_cut, nothing_known}
 use Rattle.kc_regions.specs.Region.{stack_of}
 use Rattle.kc_value.specs.Made.{derived}

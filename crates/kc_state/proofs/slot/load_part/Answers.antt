@@ -1,4 +1,4 @@
-use Rattle.std.proofs.Common.{◌≡◌, ◌+◌, ◌*◌, ◌/◌, ◌≤◌, length, subst, ◌∙◌, arith}
+use Rattle.std.proofs.Common.{◌≡◌, ◌+◌, ◌*◌, ◌/◌, ◌≤◌, length, subst, arith}
 use Rattle.kc_value.specs.Value.{value_top}
 use Rattle.kc_words.specs.Flags.{bits_of}
 use Rattle.kc_state.specs.PartSteps.{IsApart}

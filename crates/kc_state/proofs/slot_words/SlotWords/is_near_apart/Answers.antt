@@ -1,6 +1,6 @@
-use Rattle.std.proofs.Common.{◌≡◌, ◌-◌, ◌*◌, ◌≤◌, length, sym, ◌∙◌, arith}
+use Rattle.std.proofs.Common.{◌-◌, ◌*◌, ◌≤◌, length, sym, ◌∙◌, arith}
 use Rattle.std.proofs.lemmas.Bool.{leb-true}
-use Rattle.kc_state.proofs.ApartLemmas.{offset_apart, untracked_apart}
+use Rattle.kc_state.proofs.ApartLemmas.{untracked_apart}
 use Rattle.kc_state.proofs.slot_words.SlotWords.is_near_apart.Goals as goal
 
 -- no tracked word has these slots
