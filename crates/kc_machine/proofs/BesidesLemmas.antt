@@ -1,6 +1,6 @@
 -- The breaks of an instruction that its accesses don't show, by how it ends: a return has B5 or B8, a forbidden
 -- instruction its own number, every other none.
-use Rattle.std.proofs.Common.{◌≡◌, ℕ, ◌<◌, ◌≤◌, Bool, true, false, cond, List, Option, Some, None, ◌⊎◌, inl, inr, arith, refl, ap, sym, ◌∙◌, subst, IsSomeAnd}
+use Rattle.std.proofs.Common.{◌≡◌, ℕ, ◌<◌, ◌≤◌, Bool, true, false, cond, List, Option, Some, None, ◌⊎◌, inl, inr, arith, refl, ap, sym, ◌∙◌}
 use Rattle.kc_insn.specs.declared.insn.Insn.{Insn}
 use Rattle.kc_insn.specs.declared.insn.Insn.TheVariants.{Sysretq}
 use Rattle.kc_cpu.specs.declared.cpu.Cpu.{Cpu}
@@ -9,11 +9,8 @@ use Rattle.kc_exec.specs.declared.executed.ExecEnd.{ExecEnd}
 use Rattle.kc_exec.specs.declared.executed.ExecEnd.TheVariants.{Next, Returned, Stopped, Forbidden}
 use Rattle.kc_exec.specs.Moment.{Moment}
 use Rattle.kc_exec.specs.Effect.{row}
-use Rattle.kc_exec.specs.Breaks.{effect, break_of}
+use Rattle.kc_exec.specs.Breaks.{effect}
 use Rattle.kc_exec.proofs.EndLemmas.{forbidden-of}
-use Rattle.kc_events.specs.Turns.{newest}
-use Rattle.kc_events.specs.Breaks.{Restores}
-use Rattle.kc_machine.specs.Ends.{IsLeast}
 use Rattle.kc_machine.specs.JudgeSteps.{BreaksBesides, IsLeastBesides}
 
 -- SYSRETQ is a return

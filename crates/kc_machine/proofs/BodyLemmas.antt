@@ -1,6 +1,6 @@
 -- A handler's step. What is judged is the read of the byte at the new RSP, then its bytes and the edited words, which
 -- are at most three, each at an address of 64 bits.
-use Rattle.std.proofs.Common.{◌≡◌, ℕ, zero, suc, ◌+◌, ◌%◌, ◌^◌, ◌<◌, List, [], ◌∷◌, ◌++◌, length, map, get_or, slice_index, Option, Some, None, arith, refl, ap, sym, ◌∙◌, subst}
+use Rattle.std.proofs.Common.{◌≡◌, ℕ, zero, suc, ◌^◌, ◌<◌, List, [], ◌∷◌, ◌++◌, length, map, get_or, slice_index, Option, Some, None, arith, refl, ap, sym, ◌∙◌, subst}
 use Rattle.std.specs.List.{All}
 use Rattle.kc_regions.specs.Description.{Description}
 use Rattle.kc_mem.specs.Memory.{Bytes, MemoryValue, put_all}

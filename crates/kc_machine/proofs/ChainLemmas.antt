@@ -1,6 +1,6 @@
 -- The newest activation is the last of the chain. Each change of it is read off by induction on the chain, whose last
 -- step has one activation.
-use Rattle.std.proofs.Common.{◌≡◌, ℕ, zero, suc, ◌-◌, List, [], ◌∷◌, ◌++◌, length, Option, Some, None, IsSomeAnd, MatchOption, slice_set, arith, refl, ap, sym, ◌∙◌, subst}
+use Rattle.std.proofs.Common.{◌≡◌, ℕ, suc, ◌-◌, List, [], ◌∷◌, ◌++◌, length, Option, Some, None, IsSomeAnd, MatchOption, slice_set, arith, refl, ap, sym, ◌∙◌, subst}
 use Rattle.kc_exec.specs.declared.state.Activation.{Activation}
 use Rattle.kc_events.specs.declared.turn.Edit.{Edit}
 use Rattle.kc_events.specs.Turns.{newest, without_newest}

@@ -1,11 +1,9 @@
 -- A delivery. The chain has the new activation while the writes are judged, with a base of 0 where the machine stops;
 -- which bytes are live doesn't go by it. Where nothing stops or breaks, what stands is the delivery's.
-use Rattle.std.proofs.Common.{◌≡◌, ℕ, ◌<◌, Bool, true, false, cond, List, [], ◌∷◌, ◌++◌, Option, Some, None, Result, Ok, Err, option_map, arith, refl, ap, sym, ◌∙◌, subst}
+use Rattle.std.proofs.Common.{◌≡◌, ℕ, Bool, true, cond, List, [], ◌∷◌, ◌++◌, Option, Some, None, Ok, option_map, arith, refl, ap, sym, ◌∙◌, subst}
 use Rattle.kc_regions.specs.declared.entry.Gate.{Gate}
 use Rattle.kc_regions.specs.Description.{Description}
 use Rattle.kc_regions.specs.Lookup.{gate_of}
-use Rattle.kc_cpu.specs.declared.cpu.Cpu.{Cpu}
-use Rattle.kc_cpu.specs.declared.cpu.Latch.{Latch}
 use Rattle.kc_mem.specs.Memory.{Bytes}
 use Rattle.kc_exec.specs.declared.access.Access.{Access}
 use Rattle.kc_exec.specs.declared.state.Activation.{Activation}
@@ -17,7 +15,6 @@ use Rattle.kc_events.specs.declared.delivery.DeliverEnd.TheVariants.{Delivered a
 use Rattle.kc_events.specs.Delivery.{Delivered, delivered, delivery, end_of_delivery}
 use Rattle.kc_events.specs.Turns.{made_by_event}
 use Rattle.kc_events.specs.Attempt.{Attempt, entered}
-use Rattle.kc_events.specs.Run.{IsLike, after}
 use Rattle.kc_machine.specs.declared.end.StepEnd.{StepEnd}
 use Rattle.kc_machine.specs.declared.end.StepEnd.TheVariants.{NotAllowed, Done, Stopped, Broke}
 use Rattle.kc_machine.specs.Chain.{with_base, base_after}

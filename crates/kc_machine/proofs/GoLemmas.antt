@@ -1,6 +1,6 @@
 -- An instruction's turn. What the code tests is the attempt; B1 is out of question, the judgement of its accesses gives
 -- B2 to B4 and the stop, and what is left is B5 to B8, whose numbers are above these.
-use Rattle.std.proofs.Common.{◌≡◌, ℕ, ◌+◌, ◌<◌, ◌≤◌, Bool, true, false, cond, eqb, List, [], ◌∷◌, ◌++◌, Option, Some, None, Result, Ok, Err, ◌⊎◌, inl, inr, arith, refl, ap, sym, ◌∙◌, subst}
+use Rattle.std.proofs.Common.{◌≡◌, ℕ, ◌<◌, ◌≤◌, Bool, true, false, cond, eqb, List, [], Option, Some, None, Ok, ◌⊎◌, inl, inr, arith, refl, ap, sym, ◌∙◌, subst}
 use Rattle.std.proofs.lemmas.Bool.{false≢true, eqb-true}
 use Rattle.kc_insn.specs.declared.insn.Insn.{Insn}
 use Rattle.kc_regions.specs.Description.{Description}
@@ -10,7 +10,6 @@ use Rattle.kc_exec.specs.declared.access.Access.{Access}
 use Rattle.kc_exec.specs.declared.state.Activation.{Activation}
 use Rattle.kc_exec.specs.declared.state.State.{State}
 use Rattle.kc_exec.specs.declared.executed.Executed.{Executed}
-use Rattle.kc_exec.specs.declared.executed.ExecEnd.{ExecEnd}
 use Rattle.kc_exec.specs.Moment.{Moment}
 use Rattle.kc_exec.specs.Breaks.{effect}
 use Rattle.kc_exec.specs.Execution.{moment, accesses_of, stops, with_write}

@@ -1,7 +1,7 @@
 -- The judgement of a turn is that of the breaks. Each of B2, B3 and B4 is a fact that the code tests of the front of
 -- the accesses; the least that holds is the end. A turn that executes no instruction has no other breaks.
-use Rattle.std.proofs.Common.{◌≡◌, ℕ, zero, suc, ◌+◌, ◌^◌, ◌<◌, ◌≤◌, ◌↔◌, Bool, true, false, not, ltb, IsTrue, List, [], ◌∷◌, ◌++◌, length, map, Option, Some, None, Result, Ok, Err, ◌⊎◌, inl, inr, arith, refl, ap, sym, ◌∙◌, subst}
-use Rattle.std.specs.List.{Contains, Any, All, list_any, prefix_len}
+use Rattle.std.proofs.Common.{◌≡◌, ℕ, ◌<◌, ◌↔◌, Bool, true, false, not, ltb, IsTrue, List, [], ◌∷◌, ◌++◌, length, Option, Some, None, Result, Ok, Err, ◌⊎◌, inl, inr, arith, refl, ap, sym, ◌∙◌, subst}
+use Rattle.std.specs.List.{Contains, Any}
 use Rattle.std.proofs.lemmas.Bool.{false≢true}
 use Rattle.std.proofs.lemmas.List.Folds.{length-prefix_len}
 use Rattle.std.proofs.lemmas.List.Elements.{Contains-push, Contains-push_cases, Contains-append_left}
@@ -20,11 +20,11 @@ use Rattle.kc_exec.specs.Live.{IsLive, IsLiveFor}
 use Rattle.kc_exec.specs.Operand.{plus}
 use Rattle.kc_events.specs.declared.turn.Turn.{Turn}
 use Rattle.kc_events.specs.declared.turn.Turn.TheVariants.{Go, Irq, Nmi, Debug, Check, Fault, Trap, Syscall, User as UserTurn, Body, Leave}
-use Rattle.kc_events.specs.Attempt.{Attempt, bytes_of_words}
+use Rattle.kc_events.specs.Attempt.{Attempt}
 use Rattle.kc_events.specs.Breaks.{judged, IsOf, UsesOtherGs, TouchesForbidden, WritesLive, IsWritten, EndsWith, BreaksWith}
 use Rattle.kc_machine.specs.declared.end.StepEnd.{StepEnd}
 use Rattle.kc_machine.specs.declared.end.StepEnd.TheVariants.{NotAllowed, Done, Stopped, Broke}
-use Rattle.kc_machine.specs.Ends.{IsLeast, IsEnd, Leaves, Ends}
+use Rattle.kc_machine.specs.Ends.{IsLeast, Ends}
 use Rattle.kc_machine.specs.JudgeSteps.{HasLiveByte, HasLiveWrite, IsTrialOf, BreaksByAccess, IsJudged}
 use Rattle.kc_machine.proofs.ListLemmas.{any-of, of-any, any-front, besides-to, besides-from}
 
@@ -275,6 +275,17 @@ pub record Found (cfg : Description) (S : State) (t : Attempt) (before : Cpu) (l
   pub written_is : IsTrue written ↔ HasLiveWrite cfg live front stopped writes words
   pub no_gs : gs ≡ false
   pub none_absent : absent ≡ false
+
+-- no GS access uses another base, and a byte is absent or forbidden
+pub judged-absent : (cfg : Description) (S : State) (t : Attempt) (before : Cpu) (live : List Activation)
+    (touched : List Access) (writes words : List (ℕ × ℕ)) (front : List Access) (gs absent : Bool)
+    → IsTrialOf cfg S t before live touched writes words → front ≡ judged cfg touched → (IsTrue gs ↔ Gs cfg before front)
+    → (IsTrue absent ↔ Any (Absent cfg before) front) → gs ≡ false → absent ≡ true → IsJudged cfg S t (Some (Broke 3))
+judged-absent cfg S t before live touched writes words front gs absent is front_is gs_is absent_is no_gs some =
+    least-3 cfg S t (λ h. false≢true (sym no_gs ∙ gs_is.1 (subst (λ (xs : List Access). Gs cfg before xs) (sym front_is)
+    (gs-from cfg S t before touched is.cpu is.accesses h))))
+    (absent-to cfg S t before touched is.cpu is.accesses
+    (subst (λ (xs : List Access). Any (Absent cfg before) xs) front_is (absent_is.0 some)))
 
 stopped-where : (cfg : Description) (touched front : List Access) (stopped : Bool) → front ≡ judged cfg touched
     → stopped ≡ ltb (length front) (length touched)

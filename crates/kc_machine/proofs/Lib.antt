@@ -1,6 +1,7 @@
 pub mod ListLemmas
 pub mod ChainLemmas
 pub mod JudgeLemmas
+pub mod OneRegionLemmas
 pub mod BesidesLemmas
 pub mod GoLemmas
 pub mod EnterLemmas

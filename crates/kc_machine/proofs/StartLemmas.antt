@@ -7,13 +7,11 @@ use Rattle.std.proofs.lemmas.Bool.{cases_lt}
 use Rattle.std.proofs.lemmas.List.Elements.{All-contains}
 use Rattle.std.proofs.lemmas.List.{get_or_default}
 use Rattle.std.specs.FinMap as finite
-use Rattle.std.specs.List.{All, Any, Contains}
+use Rattle.std.specs.List.{All, Any}
 use Rattle.std.proofs.Math.Numerals.{unary_clauses}
 use Rattle.kc_regions.specs.declared.entry.Word.{Word}
 use Rattle.kc_regions.specs.declared.cpu.CpuSetup.{CpuSetup}
-use Rattle.kc_regions.specs.declared.region.Region.{Region}
 use Rattle.kc_regions.specs.Description.{Description}
-use Rattle.kc_regions.specs.Each.{Each}
 use Rattle.kc_regions.specs.Lookup.{tss_word}
 use Rattle.kc_regions.specs.CrossRules.{IsWordPlaced, IsInArea, WordsMeet}
 use Rattle.kc_regions.specs.Ranges.{IsRegionInRange, IsWordInRange}

@@ -1,6 +1,6 @@
 -- From the end of a turn that may come to the answers of a step. There is one instruction at RIP, so what is said of
 -- some is said of the one that was fetched.
-use Rattle.std.proofs.Common.{◌≡◌, ℕ, ◌<◌, true, false, List, Option, Some, None, Result, Ok, Err, OnErr, arith, refl, ap, sym, ◌∙◌, subst}
+use Rattle.std.proofs.Common.{◌≡◌, ℕ, true, Option, Result, Ok, Err, OnErr, sym, ◌∙◌, subst}
 use Rattle.std.proofs.lemmas.Bool.{false≢true}
 use Rattle.kc_plain.specs.declared.memory.NoMemory.{NoMemory}
 use Rattle.kc_insn.specs.declared.insn.Insn.{Insn}

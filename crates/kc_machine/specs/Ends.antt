@@ -1,5 +1,5 @@
 -- How a turn ends: what each answer of a step says, and what stands afterwards. This project's own.
-use Rattle.std.specs.Prelude.{◌≡◌, ℕ, ◌<◌, ◌==◌, true, false, List, [], Option, Some, None, Result, Ok, Err, if◌then◌else◌}
+use Rattle.std.specs.Prelude.{◌≡◌, ℕ, ◌<◌, ◌==◌, true, false, List, [], Result, Ok, Err, if◌then◌else◌}
 use Rattle.kc_plain.specs.declared.memory.NoMemory.{NoMemory}
 use Rattle.kc_regions.specs.Description.{Description}
 use Rattle.kc_exec.specs.declared.access.Access.{Access}

@@ -1,9 +1,10 @@
 -- The parts of the judgement of a turn. Machinery: what each means stands with the breaks.
-use Rattle.std.specs.Prelude.{◌≡◌, ℕ, ◌<◌, ◌^◌, Bool, true, false, ◌⊎◌, List, All, Any, ◌++◌, map, Option, Some, None, IsSomeAnd, if◌then◌else◌}
+use Rattle.std.specs.Prelude.{◌≡◌, ℕ, ◌+◌, ◌<◌, ◌≤◌, ◌^◌, Bool, true, false, ◌⊎◌, List, All, Any, ◌++◌, map, Option, Some, None, IsSomeAnd, if◌then◌else◌}
 use Rattle.kc_insn.specs.declared.insn.Insn.{Insn}
 use Rattle.kc_insn.specs.declared.insn.Insn.TheVariants.{Sysretq}
 use Rattle.kc_regions.specs.declared.region.Kind.TheVariants.{Text}
 use Rattle.kc_regions.specs.declared.touch.Touch.TheVariants.{Write as ForWrite}
+use Rattle.kc_regions.specs.Permission.{permits}
 use Rattle.kc_regions.specs.Region.{region_of}
 use Rattle.kc_regions.specs.Description.{Description}
 use Rattle.kc_cpu.specs.declared.cpu.Cpu.{Cpu}
@@ -24,6 +25,14 @@ use Rattle.kc_events.specs.Run.{IsLike, after}
 use Rattle.kc_machine.specs.declared.end.StepEnd.{StepEnd}
 use Rattle.kc_machine.specs.declared.end.StepEnd.TheVariants.{NotAllowed, Done, Stopped, Broke}
 use Rattle.kc_machine.specs.Ends.{IsEnd, IsLeast}
+
+-- the n bytes from address a on, one at least, lie in one region
+abbrev pub AreInOne : Description → ℕ → ℕ → Type 0
+AreInOne cfg a n = (0 < n) × IsSomeAnd (region_of cfg.regions a) (λ r. a + n ≤ r.span.to)
+
+-- the access's bytes lie in one region, which is present under this CR3 and has the right
+abbrev pub IsPlain : Description → ℕ → Access → Type 0
+IsPlain cfg cr3 access = AreInOne cfg access.at access.size × (permits cfg cr3 access.touch access.at ≡ true)
 
 -- one of the n bytes from address a on is live
 abbrev pub HasLiveByte : Description → List Activation → ℕ → ℕ → Type 0

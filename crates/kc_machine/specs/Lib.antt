@@ -1,5 +1,6 @@
 pub mod Ends
 pub mod JudgeSteps
+pub mod FetchSteps
 pub mod Chain
 pub mod Start
 pub mod Step

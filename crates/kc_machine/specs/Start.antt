@@ -1,5 +1,5 @@
 -- The states from which the machine starts. This project's own.
-use Rattle.std.specs.Prelude.{◌≡◌, ℕ, zero, suc, ◌+◌, ◌-◌, ◌%◌, ◌/◌, ◌^◌, ◌<◌, ◌⊎◌, List, [], ◌∷◌, ◌++◌, map, Any}
+use Rattle.std.specs.Prelude.{ℕ, zero, suc, ◌+◌, ◌-◌, ◌%◌, ◌/◌, ◌^◌, ◌<◌, List, [], ◌∷◌, ◌++◌, map, Any}
 use Rattle.std.specs.FinMap as finite
 use Rattle.kc_regions.specs.declared.cpu.CpuSetup.{CpuSetup}
 use Rattle.kc_regions.specs.declared.entry.Word.{Word}

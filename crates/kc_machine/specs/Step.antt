@@ -1,5 +1,5 @@
 -- What each answer of a step says. This project's own.
-use Rattle.std.specs.Prelude.{◌≡◌, ℕ, List, [], Option, Some, None, Result, Ok, Err}
+use Rattle.std.specs.Prelude.{◌≡◌, ℕ, List, Option, Result}
 use Rattle.kc_plain.specs.declared.memory.NoMemory.{NoMemory}
 use Rattle.kc_insn.specs.declared.insn.Insn.{Insn}
 use Rattle.kc_image.specs.Image.{Contents}

@@ -15,6 +15,7 @@ ghost use Rattle.kc_events.specs.Breaks.{IsUndecodable, IsContext, Restores};
 ghost use Rattle.kc_machine.specs.JudgeSteps.{IsExecutable, IsLeastBesides, cpu_after};
 
 use crate::chain::newest;
+use crate::one_region::are_code;
 use kc_cpu::{Cpu, Mode};
 use kc_exec::{Activation, ExecEnd, Executed};
 use kc_insn::Insn;
@@ -38,8 +39,8 @@ fn is_executable(cfg: &Config, at: u64) -> bool
     }
 }
 
-// Whether one of so many bytes from `at` on isn't in executable text.
-fn has_other_byte(cfg: &Config, at: u64, len: u8) -> bool
+// Whether one of so many bytes from `at` on isn't in executable text, one after another.
+fn finds_other_byte(cfg: &Config, at: u64, len: u8) -> bool
     ensures { IsTrue result ↔ ((i : ℕ) × (i < len) × ¬ IsExecutable cfg.now (plus at i)) }
 {
     for i in 0..len {
@@ -48,6 +49,18 @@ fn has_other_byte(cfg: &Config, at: u64, len: u8) -> bool
         }
     }
     false
+}
+
+// Whether one of so many bytes from `at` on isn't in executable text.
+fn has_other_byte(cfg: &Config, at: u64, len: u8) -> bool
+    ensures { IsTrue result ↔ ((i : ℕ) × (i < len) × ¬ IsExecutable cfg.now (plus at i)) }
+{
+    if are_code(cfg, at, len) {
+        cfg.tell();
+        false
+    } else {
+        finds_other_byte(cfg, at, len)
+    }
 }
 
 /// Whether the instruction at this address breaks B1: there is none, or a byte of it isn't in

@@ -13,6 +13,7 @@ ghost use Rattle.kc_events.specs.Breaks.{judged, IsOf};
 ghost use Rattle.kc_machine.specs.JudgeSteps.{IsTrialOf, IsJudged, HasLiveByte, HasLiveWrite};
 
 use crate::end::StepEnd;
+use crate::one_region::{are_in_one, are_plain};
 use kc_cpu::Cpu;
 use kc_exec::{Access, Activation, Touch, is_live, meets_guard};
 use kc_regions::Config;
@@ -83,14 +84,35 @@ fn is_forbidden(cfg: &Config, cr3: u64, access: &Access) -> bool
     false
 }
 
+// The accesses before the first that has a byte in a guard: all of them where each is plain.
+fn front_of<'a>(cfg: &Config, accesses: &'a [Access], plain: bool) -> &'a [Access]
+    requires { IsTrue plain → judged cfg.now accesses.now ≡ accesses.now }
+    ensures { result.now ≡ judged cfg.now accesses.now }
+{
+    if plain {
+        accesses
+    } else {
+        before_guard(cfg, accesses)
+    }
+}
+
 fn touches_forbidden(cfg: &Config, cr3: u64, accesses: &[Access]) -> bool
     ensures { IsTrue result ↔ Any (λ a. (x : ℕ) × IsOf a x × (permits cfg.now cr3 a.touch x ≡ false)) accesses.now }
 {
     accesses.iter().any(|access| is_forbidden(cfg, cr3, access))
 }
 
-// Whether one of so many bytes from `at` on is live.
-fn has_live_byte(cfg: &Config, chain: &[Activation], at: u64, size: u8) -> bool
+// Whether an access has an absent or forbidden byte: none does where each is plain.
+fn has_forbidden(cfg: &Config, cr3: u64, accesses: &[Access], plain: bool) -> bool
+    requires { IsTrue plain
+        → ¬ Any (λ a. (x : ℕ) × IsOf a x × (permits cfg.now cr3 a.touch x ≡ false)) accesses.now }
+    ensures { IsTrue result ↔ Any (λ a. (x : ℕ) × IsOf a x × (permits cfg.now cr3 a.touch x ≡ false)) accesses.now }
+{
+    !plain && touches_forbidden(cfg, cr3, accesses)
+}
+
+// Whether one of so many bytes from `at` on is live, one after another.
+fn finds_live_byte(cfg: &Config, chain: &[Activation], at: u64, size: u8) -> bool
     ensures { IsTrue result ↔ HasLiveByte cfg.now chain.now at size }
 {
     for i in 0..size {
@@ -99,6 +121,18 @@ fn has_live_byte(cfg: &Config, chain: &[Activation], at: u64, size: u8) -> bool
         }
     }
     false
+}
+
+// Whether one of so many bytes from `at` on is live. In one region the last one is, if any is.
+fn has_live_byte(cfg: &Config, chain: &[Activation], at: u64, size: u8) -> bool
+    ensures { IsTrue result ↔ HasLiveByte cfg.now chain.now at size }
+{
+    if are_in_one(cfg, at, size) {
+        cfg.tell();
+        is_live(cfg, chain, at.wrapping_add(size as u64 - 1))
+    } else {
+        finds_live_byte(cfg, chain, at, size)
+    }
 }
 
 fn is_write(touch: Touch) -> bool
@@ -163,11 +197,12 @@ pub(crate) fn judge(cfg: &Config, trial: &Trial) -> Option<StepEnd>
         trial.now.accesses.now trial.now.writes.now trial.now.words.now
         → IsJudged cfg.now S t result }
 {
-    let judged = before_guard(cfg, trial.accesses);
+    let plain = are_plain(cfg, trial.cpu.cr3, trial.accesses);
+    let judged = front_of(cfg, trial.accesses, plain);
     let stops = is_cut(judged, trial.accesses);
     if uses_other_gs(cfg, trial.cpu, judged) {
         Some(StepEnd::Broke(OTHER_GS))
-    } else if touches_forbidden(cfg, trial.cpu.cr3, judged) {
+    } else if has_forbidden(cfg, trial.cpu.cr3, judged, plain) {
         Some(StepEnd::Broke(FORBIDDEN_BYTE))
     } else if writes_live(cfg, trial, judged, stops) {
         Some(StepEnd::Broke(LIVE_BYTE))

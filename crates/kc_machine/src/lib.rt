@@ -6,9 +6,11 @@ mod chain;
 mod code;
 mod end;
 mod event;
+mod fetcher;
 mod handler;
 mod judge;
 mod machine;
+mod one_region;
 mod start;
 mod user;
 

@@ -14,11 +14,12 @@ ghost use Rattle.kc_machine.specs.Start.{MayStart, first_cpu, first_bytes};
 use crate::code::go;
 use crate::end::{StartEnd, StepEnd};
 use crate::event::{event, syscall};
+use crate::fetcher::Fetcher;
 use crate::handler::{body, leave};
 use crate::start::{may_start, start_cpu, start_memory};
 use crate::user::user;
 use kc_cpu::{Cpu, Latch};
-use kc_events::{Turn, UserSet, allowed, fetch};
+use kc_events::{Turn, UserSet, allowed};
 use kc_exec::{Access, Log, State};
 use kc_image::Image;
 use kc_insn::Insn;
@@ -41,7 +42,7 @@ const MACHINE_CHECK: u8 = 18;
 #[derive(Drop)]
 pub struct Machine {
     config: Config,
-    image: Image,
+    fetcher: Fetcher,
     state: State,
     log: Log,
 }
@@ -55,7 +56,7 @@ impl Model for Machine {
 
     ghost coded = { Prim.hlevel (codes, bytes_code) };
 
-    ghost view = { λ m. record { config = m.config; image = m.image; state = m.state; accesses = m.log } };
+    ghost view = { λ m. record { config = m.config; image = m.fetcher; state = m.state; accesses = m.log } };
 }
 
 impl Machine {
@@ -81,7 +82,7 @@ impl Machine {
             match start_memory(alloc, &config, first) {
                 Ok(mem) => Ok(Machine {
                     config,
-                    image,
+                    fetcher: Fetcher::new(image),
                     state: start_state(alloc, cpu, mem),
                     log: Log::new(),
                 }),
@@ -111,8 +112,8 @@ impl Machine {
         ensures accesses { Lists self.old.config self.old.image self.old.state turn.now result self.old.accesses
             self.new.accesses }
     {
-        let found = fetch(&self.image, self.state.cpu.rip);
-        if allowed(&self.config, &self.image, &self.state, turn) {
+        let found = self.fetcher.fetch(self.state.cpu.rip);
+        if allowed(&self.config, self.fetcher.image(), &self.state, turn) {
             take(&self.config, &mut self.state, &mut self.log, turn, found)
         } else {
             self.log.clear();
@@ -138,7 +139,7 @@ impl Machine {
     pub fn image(&self) -> &Image
         ensures image { result.now ≡ self.now.image }
     {
-        &self.image
+        self.fetcher.image()
     }
 
     /// The accesses of the last turn in their order, those from a guard on too. There are none

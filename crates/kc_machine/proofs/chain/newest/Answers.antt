@@ -1,4 +1,4 @@
-use Rattle.std.proofs.Common.{◌≡◌, sym, ◌∙◌}
+use Rattle.std.proofs.Common.{sym, ◌∙◌}
 use Rattle.kc_events.proofs.ChainLemmas.{newest-last}
 use Rattle.kc_machine.proofs.chain.newest.Goals as goal
 

@@ -1,5 +1,4 @@
-use Rattle.std.proofs.Common.{◌≡◌, List, Option, Some, None, ap, sym, ◌∙◌, subst}
-use Rattle.kc_cpu.specs.declared.cpu.Cpu.{Cpu}
+use Rattle.std.proofs.Common.{List, Some, None, ap, sym, ◌∙◌, subst}
 use Rattle.kc_exec.specs.declared.state.Activation.{Activation}
 use Rattle.kc_exec.specs.declared.executed.Executed.{Executed}
 use Rattle.kc_exec.specs.declared.state.State.{State}

@@ -1,6 +1,5 @@
 use Rattle.std.proofs.Common.{◌≡◌, Some, Ok, ap, sym, ◌∙◌, subst}
 use Rattle.kc_mem.specs.Memory.{Bytes}
-use Rattle.kc_exec.specs.declared.access.Access.{Access}
 use Rattle.kc_exec.specs.declared.executed.Executed.{Executed}
 use Rattle.kc_exec.specs.Moment.{Moment}
 use Rattle.kc_exec.specs.Breaks.{effect}

@@ -1,4 +1,4 @@
-use Rattle.std.proofs.Common.{◌≡◌, Ok, ap, sym, subst}
+use Rattle.std.proofs.Common.{Ok, ap, sym, subst}
 use Rattle.kc_exec.specs.declared.state.State.{State}
 use Rattle.kc_events.specs.declared.turn.Turn.TheVariants.{Go}
 use Rattle.kc_events.specs.Attempt.{gone}

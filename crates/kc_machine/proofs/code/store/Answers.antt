@@ -1,4 +1,4 @@
-use Rattle.std.proofs.Common.{◌≡◌, ℕ, ap, ◌∙◌, sym}
+use Rattle.std.proofs.Common.{ℕ, ap, ◌∙◌, sym}
 use Rattle.std.proofs.lemmas.Nat.{and_mask}
 use Rattle.kc_words.specs.declared.width.Width.{Width}
 use Rattle.kc_mem.specs.Memory.{write}

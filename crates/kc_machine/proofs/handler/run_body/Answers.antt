@@ -1,7 +1,6 @@
-use Rattle.std.proofs.Common.{◌≡◌, ℕ, ◌<◌, ◌^◌, List, Some, Ok, arith, ap, sym, ◌∙◌, subst}
-use Rattle.kc_exec.specs.declared.access.Access.{Access}
+use Rattle.std.proofs.Common.{◌≡◌, ℕ, Ok, arith, ap, sym, ◌∙◌, subst}
 use Rattle.kc_exec.specs.declared.state.State.{State}
-use Rattle.kc_exec.specs.Operand.{plus, plain_read}
+use Rattle.kc_exec.specs.Operand.{plus}
 use Rattle.kc_events.specs.Edits.{edited_words}
 use Rattle.kc_events.specs.Attempt.{body_step, frame_of}
 use Rattle.kc_machine.specs.declared.end.StepEnd.{StepEnd}

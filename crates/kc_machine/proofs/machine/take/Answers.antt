@@ -1,13 +1,8 @@
-use Rattle.std.proofs.Common.{◌≡◌, ℕ, List, Result, Ok, Err, sym, subst}
-use Rattle.kc_plain.specs.declared.memory.NoMemory.{NoMemory}
-use Rattle.kc_insn.specs.declared.insn.Insn.{Insn}
-use Rattle.kc_regions.specs.Description.{Description}
-use Rattle.kc_exec.specs.declared.state.State.{State}
+use Rattle.std.proofs.Common.{◌≡◌, sym, subst}
 use Rattle.kc_events.specs.declared.turn.Turn.{Turn}
 use Rattle.kc_events.specs.declared.turn.Turn.TheVariants.{Go, Irq, Nmi, Debug, Check, Fault, Trap, Body}
 use Rattle.kc_events.specs.Attempt.{attempt, event}
 use Rattle.kc_events.specs.Breaks.{BreaksWith}
-use Rattle.kc_machine.specs.declared.end.StepEnd.{StepEnd}
 use Rattle.kc_machine.specs.Ends.{Ends}
 use Rattle.kc_machine.proofs.JudgeLemmas.{other-ends}
 use Rattle.kc_machine.proofs.machine.take.Goals as goal

@@ -1,4 +1,4 @@
-use Rattle.std.proofs.Common.{◌≡◌, ℕ, ◌-◌, ◌+◌, ◌++◌, List, arith, ap, sym, ◌∙◌, append-nil}
+use Rattle.std.proofs.Common.{◌≡◌, ℕ, ◌-◌, ◌+◌, ◌++◌, arith, ap, sym, ◌∙◌, append-nil}
 use Rattle.kc_machine.specs.Start.{bytes_of_word}
 use Rattle.kc_machine.proofs.StartLemmas.{word-step}
 use Rattle.kc_machine.proofs.start.add_bytes.Goals as goal

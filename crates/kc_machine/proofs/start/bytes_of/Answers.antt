@@ -1,4 +1,4 @@
-use Rattle.std.proofs.Common.{◌≡◌, ℕ, ◌+◌, ◌∷◌, List, drop, get_or, ap, sym, ◌∙◌, add-one}
+use Rattle.std.proofs.Common.{ℕ, ◌+◌, ◌∷◌, drop, get_or, ap, sym, ◌∙◌, add-one}
 use Rattle.std.proofs.Math.Seq.{drop-cons}
 use Rattle.kc_machine.proofs.StartLemmas.{word-more}
 use Rattle.kc_machine.proofs.start.bytes_of.Goals as goal

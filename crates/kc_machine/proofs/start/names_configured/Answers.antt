@@ -1,4 +1,4 @@
-use Rattle.std.proofs.Common.{◌≡◌, ◌↔◌, IsTrue, ◌∙◌, subst}
+use Rattle.std.proofs.Common.{◌↔◌, IsTrue, ◌∙◌, subst}
 use Rattle.std.specs.List.{Any}
 use Rattle.kc_machine.specs.Start.{IsByteOfWord}
 use Rattle.kc_machine.proofs.start.names_configured.Goals as goal

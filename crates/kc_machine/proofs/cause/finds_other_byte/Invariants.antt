@@ -1,7 +1,7 @@
 use Rattle.std.proofs.Common.{ℕ, ◌<◌}
 use Rattle.kc_exec.specs.Operand.{plus}
 use Rattle.kc_machine.specs.JudgeSteps.{IsExecutable}
-use Rattle.kc_machine.proofs.cause.has_other_byte.Given as goal
+use Rattle.kc_machine.proofs.cause.finds_other_byte.Given as goal
 
 -- the bytes so far lie in executable text
 abbrev pub invariant-loop-i : goal.invariant-loop-i

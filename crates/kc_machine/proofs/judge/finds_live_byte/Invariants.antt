@@ -1,7 +1,7 @@
 use Rattle.std.proofs.Common.{ℕ, ◌<◌}
 use Rattle.kc_exec.specs.Live.{IsLive}
 use Rattle.kc_exec.specs.Operand.{plus}
-use Rattle.kc_machine.proofs.judge.has_live_byte.Given as goal
+use Rattle.kc_machine.proofs.judge.finds_live_byte.Given as goal
 
 -- no byte so far is live
 abbrev pub invariant-loop-i : goal.invariant-loop-i
