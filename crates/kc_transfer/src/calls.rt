@@ -9,9 +9,9 @@ ghost use Rattle.kc_state.specs.AbsStep.{with_call, entered};
 
 use crate::edits::edit_frame;
 use crate::handler_call::{frame_of, handler_at};
-use kc_frames::{Change, Slots};
+use kc_frames::Slots;
 use kc_regions::{Config, Handler};
-use kc_state::{AbsState, Key, Location, SlotWords, Succ, loc, stack_at};
+use kc_state::{AbsState, Key, Location, PartChange, SlotWords, Succ, loc, redo_parts, stack_at};
 use kc_value::Value;
 
 // `n` bytes below a location: addresses wrap, and offsets do as signed words.
@@ -34,7 +34,7 @@ struct Used<'a> {
     ghost its_stack: { stack ≡ location_stack words.cfg.now words.key.now (Some l) },
 }
 
-impl<'a> Change<Value> for Used<'a> {
+impl<'a> PartChange for Used<'a> {
     ghost changed = { λ u. used u.words.cfg.now u.words.key.now u.l u.depth };
 
     fn at(&self, i: u16, old: &Value) -> Value {
@@ -46,6 +46,12 @@ impl<'a> Change<Value> for Used<'a> {
             *old
         }
     }
+
+    fn keeps(&self, part: u16) -> bool {
+        let words = &self.words;
+        let from = moved_down(self.l, self.depth);
+        words.misses(self.stack, from, self.depth, part)
+    }
 }
 
 /// What a handler that uses `depth` bytes below `l`, which is RSP, leaves of the slots: those that it may
@@ -53,12 +59,13 @@ impl<'a> Change<Value> for Used<'a> {
 pub fn use_stack(cfg: &Config, key: &Key, l: Location, depth: u32, slots: &mut Slots<Value>)
     ensures value { slots.new ≡ redone (used cfg.now key.now l depth) 0 slots.old }
 {
-    slots.redo(&Used {
+    let used = Used {
         words: SlotWords::of(cfg, key),
         stack: stack_at(cfg, key, l),
         l,
         depth,
-    });
+    };
+    redo_parts(slots, &used);
 }
 
 fn enter_at(cfg: &Config, key: &Key, h: &Handler, s: &mut AbsState, at: Option<Location>)
