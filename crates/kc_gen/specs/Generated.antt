@@ -1,9 +1,7 @@
 -- The generated input, this project's own: S1, whose SYSCALL routine jumps from before its handler's call to a run of
 -- instructions and back. A seed chooses them by the linear congruential generator of D. E. Knuth's MMIX.
-use Rattle.std.specs.Prelude.{ℕ, suc, ◌+◌, ◌*◌, ◌/◌, ◌%◌, ◌^◌, ◌==◌, if◌then◌else◌, List, [], ◌∷◌, ◌++◌, None, pos, false}
+use Rattle.std.specs.Prelude.{ℕ, zero, suc, ◌+◌, ◌*◌, ◌/◌, ◌%◌, ◌^◌, ◌==◌, if◌then◌else◌, List, [], ◌∷◌, ◌++◌, pos}
 use Rattle.kc_words.specs.declared.width.Width.TheVariants.{Quad}
-use Rattle.kc_insn.specs.declared.insn.Base.TheVariants as base
-use Rattle.kc_insn.specs.declared.insn.Mem.{Mem}
 use Rattle.kc_insn.specs.declared.insn.Place.TheVariants as place
 use Rattle.kc_insn.specs.declared.insn.Source.TheVariants as source
 use Rattle.kc_insn.specs.declared.insn.AluOp.TheVariants as alu
@@ -20,8 +18,8 @@ abbrev pub number_after : ℕ → ℕ
 number_after x = (6364136223846793005 * x + 1442695040888963407) % 2 ^ 64
 
 -- the numbers from the seed on, which has index 0
-pub number_at : ℕ → ℕ → ℕ
-number_at seed 0 = seed
+abbrev pub number_at : ℕ → ℕ → ℕ
+number_at seed zero = seed
 number_at seed (suc i) = number_after (number_at seed i)
 
 -- bits 32 to 61 of a number
@@ -37,8 +35,8 @@ chosen x =
     Lea Quad rdx (from rax (operand x))
 
 -- `size` instructions: instruction i, from 1, is chosen by the number with index i
-pub chosen_lines : ℕ → ℕ → List Line
-chosen_lines seed 0 = []
+abbrev pub chosen_lines : ℕ → ℕ → List Line
+chosen_lines seed zero = []
 chosen_lines seed (suc i) = chosen_lines seed i ++ Code (chosen (number_at seed (suc i))) ∷ []
 
 -- S1 with a jump to the instructions between the frame and the handler's call, and the instructions with the jump back

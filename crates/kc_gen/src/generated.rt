@@ -13,9 +13,9 @@ ghost use Rattle.kc_gen.specs.Generated.{
 
 use crate::image::assemble;
 use crate::line::Line::{self, At, Code};
-use crate::listing::{S1_AFTER_FRAME, SYSCALL_FRAME};
-use crate::parts::{joined_text, put_parts};
-use crate::samples::LOAD;
+use crate::listing::SYSCALL_FRAME;
+use crate::parts::{joined, joined_text};
+use crate::samples::{LOAD, after_frame};
 use crate::texts::{
     CPU, ENTRY, GATES, GENERATED_REGION, HANDLERS, HEAD, NMI_HANDLER, OTHER_HANDLERS, QUIET_REGION,
     STACKS, USER,
@@ -36,6 +36,11 @@ const INSTRUCTIONS: u64 = 0xffff_ffff_8110_0000;
 
 // After the jump to them, where the handler of SYSCALL is called.
 const CALL: u64 = 0xffff_ffff_8100_0036;
+
+const TO_INSTRUCTIONS: &[Line] = &[
+    // jmp INSTRUCTIONS
+    Code(Insn::Jmp(INSTRUCTIONS)),
+];
 
 /// The number after this one.
 fn next_number(x: u64) -> u64
@@ -103,10 +108,9 @@ fn put_chosen(lines: &mut Vec<Line>, seed: u64, size: u32) -> Result<(), NoMemor
 fn listing(alloc: Global, seed: u64, size: u32) -> Result<Vec<Line>, NoMemory>
     ensures { IfOk result (λ v. v.items ≡ generated_lines seed size) }
 {
-    let mut lines = Vec::new(alloc);
-    put_parts(&mut lines, &[SYSCALL_FRAME])?;
-    lines.push(Code(Insn::Jmp(INSTRUCTIONS)))?;
-    put_parts(&mut lines, S1_AFTER_FRAME)?;
+    let mut lines = joined(alloc, &[SYSCALL_FRAME, TO_INSTRUCTIONS])?;
+    let rest = after_frame(alloc)?;
+    lines.extend_from_slice(&rest)?;
     lines.push(At(INSTRUCTIONS))?;
     put_chosen(&mut lines, seed, size)?;
     lines.push(Code(Insn::Jmp(CALL)))?;

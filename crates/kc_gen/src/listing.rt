@@ -683,8 +683,9 @@ pub const S1_AFTER_FRAME: &[&[Line]] = &[
     CALL_ON_MACHINE_CHECK_IN_KERNEL,
 ];
 
-/// The same of S2: its NMI entry is another one.
-pub const S2_AFTER_FRAME: &[&[Line]] = &[
+/// The entries of S2: those of S1, with another NMI entry.
+pub const S2_PARTS: &[&[Line]] = &[
+    SYSCALL_FRAME,
     SYSCALL_HANDLER,
     INTERRUPT_ENTRY,
     PUSH_RAX,

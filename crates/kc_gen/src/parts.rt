@@ -1,20 +1,21 @@
 //! Listings and texts that are joined from parts.
 
-ghost use Rattle.std.specs.Prelude.{◌≡◌, ◌++◌, OnOk, IfOk};
+ghost use Rattle.std.specs.Prelude.{◌≡◌, IfOk};
 ghost use Rattle.std.specs.List.{flat_map};
 
 use crate::line::Line;
 use kc_plain::NoMemory;
 use std::alloc::Global;
 
-/// Adds the lines of these parts, one part after the other.
-pub fn put_parts(lines: &mut Vec<Line>, parts: &[&[Line]]) -> Result<(), NoMemory>
-    ensures { OnOk result (lines.new.items ≡ lines.old.items ++ flat_map (λ p. p.now) parts.now) }
+/// The lines of these parts, one part after the other.
+pub fn joined(alloc: Global, parts: &[&[Line]]) -> Result<Vec<Line>, NoMemory>
+    ensures { IfOk result (λ v. v.items ≡ flat_map (λ p. p.now) parts.now) }
 {
+    let mut lines = Vec::new(alloc);
     for part in parts {
         lines.extend_from_slice(part)?;
     }
-    Ok(())
+    Ok(lines)
 }
 
 /// The text of these parts, one part after the other.

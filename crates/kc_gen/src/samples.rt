@@ -1,14 +1,21 @@
 //! The samples: small kernels' entry code with the configuration that describes them.
 
-ghost use Rattle.std.specs.Prelude.{◌≡◌, IfOk};
+ghost use Rattle.std.specs.Prelude.{◌≡◌, ◌++◌, IfOk};
 ghost use Rattle.kc_gen.specs.declared.kind.Sample.TheVariants.{S0, S1, S2};
-ghost use Rattle.kc_gen.specs.Samples.{s1_lines, s2_lines, sample_image, sample_config};
+ghost use Rattle.kc_gen.specs.Samples.{
+  syscall_handler,
+  s1_events,
+  s1_lines,
+  s2_lines,
+  sample_image,
+  sample_config,
+};
 
 use crate::image::assemble;
 use crate::kind::Sample;
 use crate::line::Line;
-use crate::listing::{S1_AFTER_FRAME, S2_AFTER_FRAME, SYSCALL_FRAME};
-use crate::parts::{joined_text, put_parts};
+use crate::listing::{S1_AFTER_FRAME, S2_PARTS, SYSCALL_FRAME};
+use crate::parts::{joined, joined_text};
 use crate::texts::{
     CPU, ENTRY, FAULTING_NMI_HANDLER, GATES, HANDLERS, HEAD, NMI_HANDLER, ONE_ENTRY_GATES,
     OTHER_HANDLERS, QUIET_ENTRY, QUIET_REGION, STACKS, USER, WORK_STACK,
@@ -19,22 +26,26 @@ use std::alloc::Global;
 /// Where the code of each sample begins.
 pub const LOAD: u64 = 0xffff_ffff_8100_0000;
 
+/// The lines of S1 after the first eleven of its SYSCALL routine.
+pub fn after_frame(alloc: Global) -> Result<Vec<Line>, NoMemory>
+    ensures { IfOk result (λ v. v.items ≡ syscall_handler ++ s1_events) }
+{
+    joined(alloc, S1_AFTER_FRAME)
+}
+
 fn s1_lines(alloc: Global) -> Result<Vec<Line>, NoMemory>
     ensures { IfOk result (λ v. v.items ≡ s1_lines) }
 {
-    let mut lines = Vec::new(alloc);
-    put_parts(&mut lines, &[SYSCALL_FRAME])?;
-    put_parts(&mut lines, S1_AFTER_FRAME)?;
+    let mut lines = joined(alloc, &[SYSCALL_FRAME])?;
+    let rest = after_frame(alloc)?;
+    lines.extend_from_slice(&rest)?;
     Ok(lines)
 }
 
 fn s2_lines(alloc: Global) -> Result<Vec<Line>, NoMemory>
     ensures { IfOk result (λ v. v.items ≡ s2_lines) }
 {
-    let mut lines = Vec::new(alloc);
-    put_parts(&mut lines, &[SYSCALL_FRAME])?;
-    put_parts(&mut lines, S2_AFTER_FRAME)?;
-    Ok(lines)
+    joined(alloc, S2_PARTS)
 }
 
 fn s0_image(alloc: Global) -> Result<Vec<u8>, NoMemory>
