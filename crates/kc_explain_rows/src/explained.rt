@@ -148,29 +148,66 @@ fn refusal_of<'a>(case: &mut Case<'a>) -> Result<(Refusal, &'a str), Fail> {
     Ok((refusal, case.text()))
 }
 
+/// A sink of which the writes of these numbers fail.
+fn sink_of(alloc: Global, failing: Option<u64>) -> Result<MemSink, NoMemory> {
+    let failing = match failing {
+        Some(number) => Vec::from_slice(alloc, &[number])?,
+        None => Vec::new(alloc),
+    };
+    MemSink::new(alloc, 1_000, failing)
+}
+
+/// Whether the whole explanation is written, and what is.
+fn explained(
+    alloc: Global,
+    first: &(Image, Config),
+    refusal: &Refusal,
+    known: &str,
+    failing: Option<u64>,
+) -> Result<(bool, MemSink), Fail> {
+    let cert = cert_of(alloc, &first.1, refusal.spot, known)?;
+    let mut out = sink_of(alloc, failing)?;
+    let whole = explain(&first.0, &first.1, &cert, refusal, &mut out).is_ok();
+    Ok((whole, out))
+}
+
+/// The line of the refusal alone.
+fn line_of(alloc: Global, config: &Config, refusal: &Refusal) -> Result<MemSink, Fail> {
+    let mut out = sink_of(alloc, None)?;
+    write_refusal(config, refusal, &mut out)
+        .ok()
+        .ok_or("the sink has room")?;
+    Ok(out)
+}
+
 #[test]
 fn refusals_are_explained_as_the_rows_say(rt: HostRuntime) -> Result<(), Fail> {
     let alloc = rt.alloc();
-    let (image, config) = first(alloc)?;
+    let first = first(alloc)?;
     for line in ROWS.lines() {
         if let Some(mut case) = case_of(line) {
             let (refusal, known) = refusal_of(&mut case)?;
-            let cert = cert_of(alloc, &config, refusal.spot, known)?;
+            let (whole, out) = explained(alloc, &first, &refusal, known, None)?;
             let due = case.lines(alloc)?;
-            let mut out = MemSink::new(alloc, 1_000, Vec::new(alloc))?;
-            assert!(rt;
-                explain(&image, &config, &cert, &refusal, &mut out).is_ok(),
-                "{line}"
-            );
+            assert!(rt; whole, "{line}");
             assert!(rt; out.bytes() == due.as_bytes(), "{line}");
-            let (head, _) = due.as_str().split_once('\n').ok_or("a line")?;
-            let mut out = MemSink::new(alloc, 1_000, Vec::new(alloc))?;
+        }
+    }
+    Ok(())
+}
+
+#[test]
+fn the_first_line_is_that_of_the_refusal(rt: HostRuntime) -> Result<(), Fail> {
+    let alloc = rt.alloc();
+    let first = first(alloc)?;
+    for line in ROWS.lines() {
+        if let Some(mut case) = case_of(line) {
+            let (refusal, _) = refusal_of(&mut case)?;
+            let out = line_of(alloc, &first.1, &refusal)?;
+            let due = case.lines(alloc)?;
+            let due = due.lines().next().ok_or("a line")?;
             assert!(rt;
-                write_refusal(&config, &refusal, &mut out).is_ok(),
-                "{line}"
-            );
-            assert!(rt;
-                out.bytes() == format!(in alloc; "{head}\n")?.as_bytes(),
+                std::str::from_utf8(out.bytes())?.strip_suffix('\n') == Some(due),
                 "{line}"
             );
         }
@@ -178,37 +215,40 @@ fn refusals_are_explained_as_the_rows_say(rt: HostRuntime) -> Result<(), Fail> {
     Ok(())
 }
 
-/// A refusal at a node, and what is known there.
-const AT_A_NODE: &str = "9 | context 0 at 0xffffffff81000045 | - | gs=KU map=K latch=NNA rsp=e4";
+/// The number of a write, and what was written where it is the first that fails: the line of the instruction is
+/// written in three pieces.
+const REFUSED: &str = "\
+0 | -
+1 | refused C9 context 0 at 0xffffffff81000045
+4 | refused C9 context 0 at 0xffffffff81000045 / instruction mov cr3, rdx
+5 | refused C9 context 0 at 0xffffffff81000045 / instruction mov cr3, rdx / gs active kernel inactive user
+8 | refused C9 context 0 at 0xffffffff81000045 / instruction mov cr3, rdx / gs active kernel inactive user / map kernel / nmi open / rsp entry rsp
+";
 
-/// Its lines, each and all.
-const LINES: [&str; 7] = [
-    "refused C9 context 0 at 0xffffffff81000045\n",
-    "instruction mov cr3, rdx\n",
-    "gs active kernel inactive user\n",
-    "map kernel\n",
-    "nmi open\n",
-    "rsp entry rsp\n",
-    "because CR3 may be loaded with a third value\n",
-];
+/// Whether a case's next column are the lines of this text, with `-` for no line.
+fn is_told(alloc: Global, case: &mut Case<'_>, text: &[u8]) -> Result<bool, Fail> {
+    let mut ahead = *case;
+    if ahead.text() == "-" {
+        return Ok(text.is_empty());
+    }
+    Ok(text == case.lines(alloc)?.as_bytes())
+}
 
 #[test]
 fn nothing_follows_a_refused_line(rt: HostRuntime) -> Result<(), Fail> {
     let alloc = rt.alloc();
-    let (image, config) = first(alloc)?;
-    let mut case = case_of(AT_A_NODE).ok_or("a case")?;
-    let (refusal, known) = refusal_of(&mut case)?;
-    let cert = cert_of(alloc, &config, refusal.spot, known)?;
-    let mut due = String::new(alloc);
-    for (i, line) in LINES.iter().enumerate() {
-        // The instruction's line is written in three pieces.
-        let write = if i < 2 { i } else { i + 2 };
-        let mut failing = Vec::new(alloc);
-        failing.push(write as u64)?;
-        let mut out = MemSink::new(alloc, 1_000, failing)?;
-        assert!(rt; explain(&image, &config, &cert, &refusal, &mut out).is_err());
-        assert!(rt; out.bytes() == due.as_bytes());
-        due.push_str(line)?;
+    let first = first(alloc)?;
+    let mut row = case_of(
+        "9 | context 0 at 0xffffffff81000045 | - | gs=KU map=K latch=NNA rsp=e4",
+    ).ok_or("a case")?;
+    let (refusal, known) = refusal_of(&mut row)?;
+    for line in REFUSED.lines() {
+        if let Some(mut case) = case_of(line) {
+            let number = case.number()?;
+            let (whole, out) = explained(alloc, &first, &refusal, known, Some(number))?;
+            assert!(rt; !whole, "{line}");
+            assert!(rt; is_told(alloc, &mut case, out.bytes())?, "{line}");
+        }
     }
     Ok(())
 }
