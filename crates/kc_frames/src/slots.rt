@@ -44,7 +44,7 @@ impl<V: Domain + Copy> Slots<V> {
         requires { V.top_of top ≡ top }
         ensures value { IfOk result (λ slots. slots ≡ every_slot top) }
     {
-        let mut items = Vec::new(alloc);
+        let mut items = Vec::with_capacity(alloc, COUNT)?;
         while items.len() < COUNT {
             items.push(top)?;
         }
