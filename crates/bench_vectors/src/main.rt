@@ -3,6 +3,7 @@
 #![tactic(auto)]
 
 mod abs_cases;
+mod turn_cases;
 
 use std::{env, fs, io};
 
@@ -22,6 +23,7 @@ fn main(rt: HostRuntime) -> io::Result<()> {
             let times = words.next();
             abs_cases::run_transfers(&rt, path.as_str(), text.as_str(), times)
         }
+        "turns" => turn_cases::run(&rt, path.as_str(), text.as_str()),
         "events" => abs_cases::run_events(&rt, path.as_str(), text.as_str()),
         _ => {
             println!(rt; "unknown kind {kind}")?;
