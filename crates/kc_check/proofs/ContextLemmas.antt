@@ -1,13 +1,18 @@
 -- What the form of a table says of a context by its number, and of the nodes of a context: each names it.
-use Rattle.std.proofs.Common.{◌≡◌, ℕ, ◌<◌, true, List, length, get_or, Option, Some, None, ap, ◌∙◌, subst, arith}
+use Rattle.std.proofs.Common.{◌≡◌, ℕ, ◌<◌, true, List, length, get_or, Option, Some, None, sym, ap, ◌∙◌, subst, arith}
 use Rattle.std.proofs.lemmas.Bool.{eqb-true}
 use Rattle.std.proofs.lemmas.List.Elements.{filter_passes}
-use Rattle.std.specs.Prelude.{IfSome, ◌==◌, slice_get}
+use Rattle.std.specs.Prelude.{IfSome, ◌==◌, option_map, slice_get}
+use Rattle.kc_insn.specs.declared.insn.Insn.{Insn}
 use Rattle.kc_regions.specs.Description.{Description}
 use Rattle.kc_regions.specs.Region.{stacks_of}
 use Rattle.kc_state.specs.AbsEvents.{HasStack, IsStackOf}
 use Rattle.kc_state.specs.Key.{IsKey}
+use Rattle.kc_state.specs.declared.key.Key.{Key}
+use Rattle.kc_rules.proofs.AnswerLemmas.{some_is}
+use Rattle.kc_cert.specs.Certified.{placed}
 use Rattle.kc_cert.specs.Form.{HasForm, IsContext}
+use Rattle.kc_cert.specs.Placed.{Placed}
 use Rattle.kc_cert.specs.Table.{nodes_of}
 use Rattle.kc_cert.specs.declared.certificate.Certificate.{Certificate}
 use Rattle.kc_cert.specs.declared.certificate.Context.{Context}
@@ -30,6 +35,17 @@ pub context-stack : (d : Description) (cert : Certificate) (i : ℕ) (c : Contex
     → slice_get cert.contexts i ≡ Some c → HasStack d c.key
 context-stack d cert i c form at =
     stack-there d cert.stacks c.key.stack form.stacks (context-key d cert i c form at).stack
+
+pub key-stack : (d : Description) (cert : Certificate) (key : Key) → HasForm d cert → IsKey cert.stacks key
+    → HasStack d key
+key-stack d cert key form h = stack-there d cert.stacks key.stack form.stacks h.stack
+
+-- the key of a node with its instruction is its context's
+pub placed-stack : (d : Description) (c : Context) (n : Node) (x : Option (Insn × ℕ)) (p : Placed)
+    → Some p ≡ option_map (placed c n) x → HasStack d c.key → HasStack d p.key
+placed-stack d c n (Some (insn, len)) p is h =
+    subst (λ (q : Placed). HasStack d q.key) (sym (some_is p (placed c n (insn, len)) is)) h
+placed-stack d c n None p is h = absurd cc
 
 -- a node of context i names it
 pub node-names : (cert : Certificate) (i k : ℕ) (n : Node) (nodes : List Node) (c : Context) → nodes ≡ nodes_of cert i

@@ -1,7 +1,7 @@
 -- Laws of rules that are asked of the items of a list in their order, for loops over it: the rules of what is left of the
 -- list are those of its first item and of the rest. An item at index i stands as get_or xs i d. Each law is one step of
 -- the list (`at_drop_more`) and a case on what the first item's rules said.
-use Rattle.std.proofs.Common.{◌≡◌, ℕ, suc, ◌+◌, ◌<◌, ◌≤◌, Bool, true, false, cond, List, [], ◌∷◌, length, get_or, drop, Result, Ok, Err, refl, ap, ◌∙◌, arith}
+use Rattle.std.proofs.Common.{◌≡◌, ℕ, suc, ◌+◌, ◌<◌, ◌≤◌, Bool, true, false, cond, List, [], ◌∷◌, length, get_or, drop, Result, Ok, Err, refl, sym, ap, ◌∙◌, arith}
 use Rattle.std.proofs.lemmas.List.{at_drop_more, at_drop_all}
 use Rattle.std.specs.Prelude.{filter}
 use Rattle.kc_rules.specs.Rules.{◌>>=◌}
@@ -24,6 +24,19 @@ demand-true false d e = absurd cc
 pub demand-false : {E : Type 0} (b : Bool) (d : E) → b ≡ false → demand b d ≡ Err d
 demand-false true d e = absurd cc
 demand-false false d e = refl
+
+-- ---- what was answered at the first of rules in a row
+
+module _ {E : Type 0} (asked rest answer : Result (Unit {0}) E) (is : answer ≡ asked) where
+  -- a refusal decides
+  pub row-refused : (e : E) → answer ≡ Err e → Err e ≡ (asked >>= λ ok. rest)
+  row-refused e refused =
+      sym (ap (λ (r : Result (Unit {0}) E). r >>= λ ok. rest) (sym is) ∙ bind-err answer rest e refused)
+
+  -- else what follows decides
+  pub row-passed : (last : Result (Unit {0}) E) → answer ≡ Ok tt → last ≡ rest → last ≡ (asked >>= λ ok. rest)
+  row-passed last passed so =
+      so ∙ sym (ap (λ (r : Result (Unit {0}) E). r >>= λ ok. rest) (sym is) ∙ bind-ok answer rest passed)
 
 -- ---- all items
 

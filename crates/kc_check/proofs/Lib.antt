@@ -6,4 +6,5 @@ pub mod ListLemmas
 pub mod MarkLemmas
 pub mod LoopLemmas
 pub mod ContextLemmas
+pub mod NodeLemmas
 pub mod WholeLemmas

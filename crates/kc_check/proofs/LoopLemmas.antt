@@ -1,7 +1,9 @@
 -- One turn of a loop that asks conditions of items in their order, where `items` is the slice that the loop walks and `all`
 -- the list that the conditions name. What was answered at the item at index i is `answer`: Ok, and then what is left
 -- decides, or a refusal, and then that decides. By the laws of rules in a row.
-use Rattle.std.proofs.Common.{◌≡◌, ℕ, ◌+◌, ◌<◌, ◌≤◌, Bool, true, cond, List, length, get_or, drop, Option, Some, None, Result, Ok, Err, refl, sym, ap, ◌∙◌, arith}
+use Rattle.std.proofs.Common.{◌≡◌, ℕ, ◌+◌, ◌<◌, ◌≤◌, ◌&&◌, Bool, true, false, cond, List, length, get_or, drop, Option, Some, None, Result, Ok, Err, refl, sym, ap, ◌∙◌, arith}
+use Rattle.std.proofs.lemmas.List.{at_drop_more, at_drop_all}
+use Rattle.std.specs.List.{list_all}
 use Rattle.std.specs.Prelude.{IsSome, filter}
 use Rattle.kc_rules.specs.Rules.{◌>>=◌}
 use Rattle.kc_regions.specs.declared.entry.Gate.{Gate}
@@ -85,3 +87,25 @@ module _ {A E : Type 0} (ask : ℕ → A → Result (Unit {0}) E) (items all : L
 
   pub numbered-ended : (i : ℕ) → length items ≤ i → Ok tt ≡ each_from ask i (drop i all)
   numbered-ended i le = sym (each_from-end ask all i (omega (arith, le, ap length same)))
+
+-- ---- items that all pass a test
+
+module _ {A : Type 0} (test : A → Bool) (items : List A) where
+  of-tested : (i : ℕ) (x : A) (b : Bool) → i < length items → x ≡ get_or items i x → b ≡ test x
+      → list_all test (drop i items) ≡ (b && list_all test (drop (i + 1) items))
+  of-tested i x b lt is e =
+      at_drop_more (λ (l : List A). list_all test l) items i x lt
+      ∙ ap (λ (t : Bool). t && list_all test (drop (i + 1) items)) (ap test (sym is) ∙ sym e)
+
+  pub tested-passed : (i : ℕ) (x : A) (b : Bool) → i < length items → x ≡ get_or items i x → b ≡ test x → b ≡ true
+      → list_all test (drop (i + 1) items) ≡ list_all test (drop i items)
+  tested-passed i x b lt is e holds =
+      sym (of-tested i x b lt is e ∙ ap (λ (t : Bool). t && list_all test (drop (i + 1) items)) holds)
+
+  pub tested-failed : (i : ℕ) (x : A) (b : Bool) → i < length items → x ≡ get_or items i x → b ≡ test x → b ≡ false
+      → false ≡ list_all test (drop i items)
+  tested-failed i x b lt is e fails =
+      sym (of-tested i x b lt is e ∙ ap (λ (t : Bool). t && list_all test (drop (i + 1) items)) fails)
+
+  pub tested-ended : (i : ℕ) → length items ≤ i → true ≡ list_all test (drop i items)
+  tested-ended i le = sym (at_drop_all (λ (l : List A). list_all test l) items i le)

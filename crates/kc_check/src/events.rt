@@ -62,10 +62,15 @@ fn kept_after(
     requires stack { HasStack table.now.cfg.now p.now.key }
     ensures { result ≡ first_failed kept (is_kept table.now.cfg.now p.now (Some summary.now)) vector }
 {
-    if kept.is_none() && !is_kept(table, p, summary, out) {
-        Some(vector)
-    } else {
-        kept
+    match kept {
+        Some(first) => Some(first),
+        None => {
+            if is_kept(table, p, summary, out) {
+                None
+            } else {
+                Some(vector)
+            }
+        }
     }
 }
 

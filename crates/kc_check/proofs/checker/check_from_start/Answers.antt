@@ -12,7 +12,7 @@ returns-in_err-check_user c =
     let p = err_from_is_err_and c.from_residual-in_err-check_user.result
     c.from_residual-in_err-check_user.ensures.1 in
     let start : c.demand.result ≡ demand (is_start_covered c.args.cfg.now c.args.cert.now) (at_table 3) =
-    c.demand.ensures ∙ (λ i. demand (c.is_start_covered.ensures i) (c.at_table.ensures i)) in
+    c.demand.ensures ∙ (λ i. demand (c.is_start_covered.ensures.value i) (c.at_table.ensures i)) in
     let user : c.check_user.result ≡ user_refusal c.args.cfg.now c.args.cert.now =
     c.check_user.ensures ∙ (λ i. user_refusal (t.cfg i) (t.cert i)) in
     rw (p.1, p.2) (user-refused c.args.image.now c.args.cfg.now c.args.cert.now c.demand.result c.check_user.result
@@ -22,7 +22,7 @@ pub returns : goal.returns
 returns c =
     let t = c.new-table.ensures in
     let start : c.demand.result ≡ demand (is_start_covered c.args.cfg.now c.args.cert.now) (at_table 3) =
-    c.demand.ensures ∙ (λ i. demand (c.is_start_covered.ensures i) (c.at_table.ensures i)) in
+    c.demand.ensures ∙ (λ i. demand (c.is_start_covered.ensures.value i) (c.at_table.ensures i)) in
     let user : c.check_user.result ≡ user_refusal c.args.cfg.now c.args.cert.now =
     c.check_user.ensures ∙ (λ i. user_refusal (t.cfg i) (t.cert i)) in
     contexts-decide c.args.image.now c.args.cfg.now c.args.cert.now c.demand.result c.check_user.result

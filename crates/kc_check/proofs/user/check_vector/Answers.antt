@@ -1,4 +1,4 @@
-use Rattle.std.proofs.Common.{◌≡◌, ◌<◌, Bool, true, cond, Result, Ok, sym, ap, ◌∙◌, arith}
+use Rattle.std.proofs.Common.{◌≡◌, ◌<◌, Bool, true, false, cond, Result, Ok, sym, ap, ◌∙◌, arith}
 use Rattle.kc_regions.specs.Lookup.{gate_of}
 use Rattle.kc_state.specs.AbsEvents.{comes_from_user, user_comes}
 use Rattle.kc_cert.specs.FirstRefusal.{demand}
@@ -16,6 +16,16 @@ is_entry_covered-covered-requires c =
           (gate_of c.args.table.now.cfg.now.gates c.args.vector)
           (sym (c.requires.events c.args.vector fits) ∙ sym c.has.ensures.value ∙ c.if-not-has.false);
     }
+
+-- another event has no rules
+pub returns-then-not-has : goal.returns-then-not-has
+returns-then-not-has c =
+    let d = c.args.table.now.cfg.now in
+    let cert = c.args.table.now.cert.now in
+    let fits : c.args.vector < 256 = omega arith in
+    let stays : user_comes d cert.user c.args.vector ≡ false =
+    sym (c.requires.events c.args.vector fits) ∙ sym c.has.ensures.value ∙ c.if-not-has.true in
+    sym (ap (λ (b : Bool). cond {A = Result (Unit {0}) Refusal} b (vector_refusal d cert c.args.vector) (Ok tt)) stays)
 
 pub returns : goal.returns
 returns c =

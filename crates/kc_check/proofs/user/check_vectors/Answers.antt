@@ -1,9 +1,22 @@
-use Rattle.std.proofs.Common.{◌∙◌}
+use Rattle.std.proofs.Common.{ℕ, List, ap, ◌∙◌}
 use Rattle.std.proofs.lemmas.Result.{err_from_is_err_and}
+use Rattle.std.specs.Prelude.{filter}
 use Rattle.kc_state.specs.AbsEvents.{user_comes}
+use Rattle.kc_cert.specs.FirstRefusal.{each}
 use Rattle.kc_check.proofs.LoopLemmas.{vector-passed, vector-refused, vectors-ended}
 use Rattle.kc_check.specs.User.{vector_refusal}
 use Rattle.kc_check.proofs.user.check_vectors.Goals as goal
+
+-- the table's vectors are those of the description in their order
+pub loop-vector-init : goal.loop-vector-init
+loop-vector-init c =
+    let d = c.args.table.now.cfg.now in
+    let cert = c.args.table.now.cert.now in
+    ap (λ (l : List ℕ). each (vector_refusal d cert) (filter (user_comes d cert.user) l))
+    c.args.table.now.vectors_in_order
+
+pub check_vector-requires : goal.check_vector-requires
+check_vector-requires c = record { events = c.user_events-events.ensures.value }
 
 pub returns-in_err-check_vector : goal.returns-in_err-check_vector
 returns-in_err-check_vector c =
