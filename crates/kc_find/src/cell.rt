@@ -12,10 +12,10 @@ use std::mem::replace;
 /// A value of the table of a round.
 #[derive(Drop)]
 pub(crate) struct Cell<D: Domain> {
-    now: D,
+    value: D,
     /// Where it was raised in this round, what it will be.
     next: Option<D>,
-    ghost rises: { IfSome next (λ n. D.rank n < D.rank now) } by { Prim.hlevel props },
+    ghost rises: { IfSome next (λ n. D.rank n < D.rank value) } by { Prim.hlevel props },
 }
 
 // Joins `by` into a value that has risen.
@@ -26,29 +26,29 @@ fn raise_more<D: Kept>(next: &mut D, by: &D)
 }
 
 impl<D: Kept + Drop> Cell<D> {
-    pub(crate) fn new(now: D) -> Cell<D>
-        ensures now { result.now ≡ now }
+    pub(crate) fn new(value: D) -> Cell<D>
+        ensures value { result.value ≡ value }
     {
-        Cell { now, next: None }
+        Cell { value, next: None }
     }
 
     /// The value as it stood when the round began.
     pub(crate) fn now(&self) -> &D
-        ensures now { result.now ≡ self.now.now }
+        ensures value { result.now ≡ self.now.value }
     {
-        &self.now
+        &self.value
     }
 
-    pub(crate) fn into_now(self) -> D
-        ensures now { result ≡ self.now }
+    pub(crate) fn into_value(self) -> D
+        ensures value { result ≡ self.value }
     {
-        let Cell { now, next: _next } = self;
-        now
+        let Cell { value, next: _next } = self;
+        value
     }
 
     /// Joins `by` into what it will be: whether this is the first time in this round that it rises.
     pub(crate) fn raise(&mut self, by: &D, rooms: &mut Rooms<D>) -> Result<bool, NoMemory>
-        ensures stood { self.new.now ≡ self.old.now }
+        ensures stood { self.new.value ≡ self.old.value }
     {
         match &mut self.next {
             Some(next) => {
@@ -61,13 +61,13 @@ impl<D: Kept + Drop> Cell<D> {
 
     // Where `by` isn't covered yet, the next value is the present one joined with it.
     fn begin(&mut self, by: &D, rooms: &mut Rooms<D>) -> Result<bool, NoMemory>
-        ensures { self.new.now ≡ self.old.now }
+        ensures { self.new.value ≡ self.old.value }
     {
-        if by.leq(&self.now) {
+        if by.leq(&self.value) {
             return Ok(false);
         }
         let mut next = rooms.take()?;
-        next.overwrite(&self.now);
+        next.overwrite(&self.value);
         let rises = join_changed(&mut next, by);
         if rises {
             self.next = Some(next);
@@ -77,11 +77,11 @@ impl<D: Kept + Drop> Cell<D> {
 
     /// The next value becomes the present one: whether it changed.
     pub(crate) fn settle(&mut self, rooms: &mut Rooms<D>) -> Result<bool, NoMemory>
-        ensures rank { IfOk result (λ rose. D.rank self.new.now + cond rose 1 0 ≤ D.rank self.old.now) }
+        ensures rank { IfOk result (λ rose. D.rank self.new.value + cond rose 1 0 ≤ D.rank self.old.value) }
     {
         match self.next.take() {
             Some(next) => {
-                rooms.give(replace(&mut self.now, next))?;
+                rooms.give(replace(&mut self.value, next))?;
                 Ok(true)
             }
             None => Ok(false),

@@ -154,6 +154,7 @@ impl Contexts {
     /// changed.
     pub(crate) fn settle(&mut self, changed: &mut Numbers) -> Result<bool, NoMemory>
         ensures count { OnOk result (self.new.1 ≡ self.old.1) }
+        ensures few { self.new.1 ≤ self.old.1 }
         ensures settled { OnOk result (IsSettled self.new) }
         ensures rank { IsSettled self.old
             → IfOk result (λ rose. sum_by clobber_rank self.new.0 + cond rose 1 0 ≤ sum_by clobber_rank self.old.0) }

@@ -1,14 +1,15 @@
 //! C14 to C16: what a node demands for each event that may come there. An event without a permitted frame demands nothing.
 //! This project's own.
 
-ghost use Rattle.std.specs.Prelude.{◌≡◌, OnOk, IsSome, true};
+ghost use Rattle.std.specs.Prelude.{◌≡◌, OnOk, IsSome};
 ghost use Rattle.kc_find.specs.Rounds.{IsGrown, stood};
 ghost use Rattle.kc_regions.specs.Lookup.{gate_of};
-ghost use Rattle.kc_state.specs.AbsEvents.{HasStack};
+ghost use Rattle.kc_absevent.specs.Sets.{IsSetOf};
+ghost use Rattle.kc_state.specs.AbsEvents.{HasStack, comes};
 
 use crate::finder::FindEnd;
 use crate::table::{Here, Table};
-use kc_absevent::{after_return, deliver_abs, events_at};
+use kc_absevent::{EventSet, after_return, deliver_abs, events_at};
 use kc_cert::entry_site;
 use kc_placed::{PlacedNode, Vectors};
 use kc_regions::Config;
@@ -73,6 +74,28 @@ fn want_event(
     want_return(cfg, table, here, p, context, out)
 }
 
+// What the event of this vector demands, if it may come.
+fn want_vector(
+    cfg: &Config,
+    table: &mut Table,
+    here: &Here,
+    p: &PlacedNode,
+    events: &EventSet,
+    vector: u8,
+    out: &mut Scratch,
+) -> Result<(), FindEnd>
+    requires stack { HasStack cfg.now p.now.key }
+    requires events { IsSetOf events.now.vectors (comes cfg.now p.now.key p.now.site p.now.state p.now.insn p.now.len) }
+    ensures stood { OnOk result (stood table.new ≡ stood table.old) }
+    ensures grown { OnOk result (IsGrown table.old table.new) }
+{
+    if events.has(vector) {
+        want_event(cfg, table, here, p, vector, out)
+    } else {
+        Ok(())
+    }
+}
+
 /// What the events at the node demand.
 pub(crate) fn want_events(
     cfg: &Config,
@@ -88,9 +111,7 @@ pub(crate) fn want_events(
 {
     let events = events_at(cfg, p.key, &p.site, p.state, &p.insn, p.len);
     for vector in vectors.as_slice() {
-        if events.has(*vector) {
-            want_event(cfg, table, here, p, *vector, out)?;
-        }
+        want_vector(cfg, table, here, p, &events, *vector, out)?;
     }
     Ok(())
 }

@@ -1,5 +1,7 @@
 //! The table as a certificate: contexts rising by key, and nodes by context, address and whether they are inside a handler.
 
+ghost use Rattle.std.specs.Prelude.{◌≡◌, IfOk};
+
 use crate::contexts::Counted;
 use crate::table::{Position, Table};
 use indexmap::IndexSet;
@@ -85,7 +87,9 @@ pub(crate) fn certificate_of(
     cfg: &Config,
     digests: &Digests,
     table: Table,
-) -> Result<Certificate, NoMemory> {
+) -> Result<Certificate, NoMemory>
+    ensures digests { IfOk result (λ c. c.digests ≡ digests.now) }
+{
     let (contexts, places) = contexts_in_order(alloc, table.contexts.counted()?)?;
     let (user, nodes) = table.into_parts();
     let (positions, states) = nodes.into_parts()?;

@@ -34,7 +34,7 @@ impl<D: Domain> Model for Rising<D> {
 
     ghost coded = { coded× (coded_list D.code) coded_ℕ };
 
-    ghost view = { λ r. (map (λ c. c.now) r.cells.items, length r.cells.items + length r.fresh.items) };
+    ghost view = { λ r. (map (λ c. c.value) r.cells.items, length r.cells.items + length r.fresh.items) };
 }
 
 impl<D: Kept + Drop> Rising<D> {
@@ -130,6 +130,7 @@ impl<D: Kept + Drop> Rising<D> {
     /// whether one changed.
     pub(crate) fn settle(&mut self, changed: &mut Numbers) -> Result<bool, NoMemory>
         ensures count { OnOk result (self.new.1 ≡ self.old.1) }
+        ensures few { self.new.1 ≤ self.old.1 }
         ensures settled { OnOk result (IsSettled self.new) }
         ensures rank { IsSettled self.old
             → IfOk result (λ rose. sum_by D.rank self.new.0 + cond rose 1 0 ≤ sum_by D.rank self.old.0) }
@@ -140,8 +141,8 @@ impl<D: Kept + Drop> Rising<D> {
     }
 
     fn settle_raised(&mut self, changed: &mut Numbers) -> Result<bool, NoMemory>
-        ensures length { OnOk result (length self.new.0 ≡ length self.old.0) }
-        ensures count { OnOk result (self.new.1 ≡ self.old.1) }
+        ensures length { length self.new.0 ≡ length self.old.0 }
+        ensures count { self.new.1 ≡ self.old.1 }
         ensures rank { IfOk result (λ rose. sum_by D.rank self.new.0 + cond rose 1 0 ≤ sum_by D.rank self.old.0) }
     {
         let mut rose = false;
@@ -155,6 +156,7 @@ impl<D: Kept + Drop> Rising<D> {
     fn settle_fresh(&mut self, changed: &mut Numbers) -> Result<(), NoMemory>
         ensures settled { OnOk result (IsSettled self.new) }
         ensures count { OnOk result (self.new.1 ≡ self.old.1) }
+        ensures few { self.new.1 ≤ self.old.1 }
         ensures same { IsSettled self.old → self.new.0 ≡ self.old.0 }
     {
         if self.fresh.is_empty() {
@@ -168,6 +170,7 @@ impl<D: Kept + Drop> Rising<D> {
     fn push_each(&mut self, values: Vec<D>, changed: &mut Numbers) -> Result<(), NoMemory>
         ensures cells { OnOk result (length self.new.0 ≡ length self.old.0 + length values.items) }
         ensures count { OnOk result (self.new.1 ≡ self.old.1 + length values.items) }
+        ensures few { self.new.1 ≤ self.old.1 + length values.items }
     {
         for value in values {
             changed.add(self.cells.len())?;
@@ -187,7 +190,7 @@ impl<D: Kept + Drop> Rising<D> {
         } = self;
         let mut values = Vec::new(alloc);
         for cell in cells {
-            values.push(cell.into_now())?;
+            values.push(cell.into_value())?;
         }
         Ok(values)
     }
@@ -199,8 +202,8 @@ fn settle_at<D: Kept + Drop>(
     rooms: &mut Rooms<D>,
     number: usize,
 ) -> Result<bool, NoMemory>
-    ensures { IfOk result (λ rose. sum_by D.rank (map (λ c. c.now) cells.new) + cond rose 1 0
-        ≤ sum_by D.rank (map (λ c. c.now) cells.old)) }
+    ensures { IfOk result (λ rose. sum_by D.rank (map (λ c. c.value) cells.new) + cond rose 1 0
+        ≤ sum_by D.rank (map (λ c. c.value) cells.old)) }
 {
     if number < cells.len() {
         cells[number].settle(rooms)

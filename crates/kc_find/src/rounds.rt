@@ -52,6 +52,55 @@ fn want_home(cfg: &Config, table: &mut Table, context: usize) -> Result<(), Find
     Ok(())
 }
 
+// What the user state demands, where it is listed.
+fn want_user_entries(
+    inputs: &Inputs,
+    table: &mut Table,
+    listed: &Listed,
+    desk: &mut Desk,
+) -> Result<(), FindEnd>
+    ensures stood { OnOk result (stood table.new ≡ stood table.old) }
+    ensures grown { OnOk result (IsGrown table.old table.new) }
+{
+    if !listed.user {
+        return Ok(());
+    }
+    desk.user.copy_from(table.user.now());
+    want_entries(
+        inputs.cfg,
+        &inputs.vectors,
+        table,
+        &desk.user,
+        &mut desk.out,
+    )
+}
+
+// What the contexts demand that came in the round before.
+fn want_homes(cfg: &Config, table: &mut Table, listed: &Listed) -> Result<(), FindEnd>
+    ensures { OnOk result (table.new ≡ table.old) }
+{
+    for context in listed.contexts_from..table.contexts.stood() {
+        want_home(cfg, table, context)?;
+    }
+    Ok(())
+}
+
+// What the listed nodes demand.
+fn visit_each(
+    inputs: &Inputs,
+    table: &mut Table,
+    nodes: &[usize],
+    desk: &mut Desk,
+) -> Result<(), FindEnd>
+    ensures stood { OnOk result (stood table.new ≡ stood table.old) }
+    ensures grown { OnOk result (IsGrown table.old table.new) }
+{
+    for node in nodes {
+        visit(inputs, table, *node, desk)?;
+    }
+    Ok(())
+}
+
 // All that is listed demands, read from the table as it stood when the round began.
 fn want_listed(
     inputs: &Inputs,
@@ -62,23 +111,9 @@ fn want_listed(
     ensures stood { OnOk result (stood table.new ≡ stood table.old) }
     ensures grown { OnOk result (IsGrown table.old table.new) }
 {
-    if listed.user {
-        desk.user.copy_from(table.user.now());
-        want_entries(
-            inputs.cfg,
-            &inputs.vectors,
-            table,
-            &desk.user,
-            &mut desk.out,
-        )?;
-    }
-    for context in listed.contexts_from..table.contexts.stood() {
-        want_home(inputs.cfg, table, context)?;
-    }
-    for node in listed.nodes.as_slice() {
-        visit(inputs, table, *node, desk)?;
-    }
-    Ok(())
+    want_user_entries(inputs, table, listed, desk)?;
+    want_homes(inputs.cfg, table, listed)?;
+    visit_each(inputs, table, listed.nodes.as_slice(), desk)
 }
 
 // The latches after the node's return, if it is at one.

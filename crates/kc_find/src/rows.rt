@@ -114,6 +114,7 @@ impl<K: Eq + Hash + Drop, D: Kept + Drop> Rows<K, D> {
     /// Ends the round: adds the numbers of the values that changed or came, and tells whether one changed.
     pub(crate) fn settle(&mut self, changed: &mut Numbers) -> Result<bool, NoMemory>
         ensures count { OnOk result (self.new.1 ≡ self.old.1) }
+        ensures few { self.new.1 ≤ self.old.1 }
         ensures settled { OnOk result (IsSettled self.new) }
         ensures rank { IsSettled self.old
             → IfOk result (λ rose. sum_by D.rank self.new.0 + cond rose 1 0 ≤ sum_by D.rank self.old.0) }

@@ -48,7 +48,7 @@ impl Model for Table {
 
     ghost Value = { Rounds };
 
-    ghost view = { λ t. record { user = t.user.now; contexts = t.contexts; nodes = t.nodes } };
+    ghost view = { λ t. record { user = t.user.value; contexts = t.contexts; nodes = t.nodes } };
 
     ghost invariant = { λ t. t.nodes.1 ≤ MAX_NODES };
 }
@@ -165,6 +165,6 @@ impl Table {
             user_rooms: _user_rooms,
             entries: _entries,
         } = self;
-        (user.into_now(), nodes)
+        (user.into_value(), nodes)
     }
 }

@@ -3,12 +3,14 @@
 
 ghost use Rattle.std.specs.Prelude.{◌≡◌, OnOk, IfSome, IsSome};
 ghost use Rattle.kc_find.specs.Rounds.{IsGrown, stood};
+ghost use Rattle.kc_absevent.specs.Sets.{IsSetOf};
 ghost use Rattle.kc_regions.specs.Lookup.{gate_of};
+ghost use Rattle.kc_state.specs.AbsEvents.{user_comes};
 
 use crate::events::enter;
 use crate::finder::FindEnd;
 use crate::table::Table;
-use kc_absevent::{deliver_user, user_events};
+use kc_absevent::{EventSet, deliver_user, user_events};
 use kc_placed::Vectors;
 use kc_regions::Config;
 use kc_state::{Scratch, UserState};
@@ -30,6 +32,26 @@ fn want_entry(
     Ok(())
 }
 
+// What the event of this vector demands, if it may come.
+fn want_vector(
+    cfg: &Config,
+    table: &mut Table,
+    user: &UserState,
+    events: &EventSet,
+    vector: u8,
+    out: &mut Scratch,
+) -> Result<(), FindEnd>
+    requires events { IsSetOf events.now.vectors (user_comes cfg.now user.now) }
+    ensures stood { OnOk result (stood table.new ≡ stood table.old) }
+    ensures grown { OnOk result (IsGrown table.old table.new) }
+{
+    if events.has(vector) {
+        want_entry(cfg, table, user, Some(vector), out)
+    } else {
+        Ok(())
+    }
+}
+
 /// What events demand where this is known while the user runs.
 pub(crate) fn want_entries(
     cfg: &Config,
@@ -43,9 +65,7 @@ pub(crate) fn want_entries(
 {
     let events = user_events(cfg, user);
     for vector in vectors.as_slice() {
-        if events.has(*vector) {
-            want_entry(cfg, table, user, Some(*vector), out)?;
-        }
+        want_vector(cfg, table, user, &events, *vector, out)?;
     }
     want_entry(cfg, table, user, None, out)
 }

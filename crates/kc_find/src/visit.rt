@@ -89,7 +89,7 @@ fn want_placed(
     out: &mut Scratch,
     user: &mut UserState,
 ) -> Result<(), FindEnd>
-    requires stack { HasStack inputs.cfg.now p.now.key }
+    requires stack { HasStack inputs.now.cfg.now p.now.key }
     ensures stood { OnOk result (stood table.new ≡ stood table.old) }
     ensures grown { OnOk result (IsGrown table.old table.new) }
 {
