@@ -1,4 +1,4 @@
-pub mod LinesLemmas
+pub mod NumberLemmas
 pub mod WordsLemmas
 pub mod WorkLemmas
 pub mod VerdictLemmas

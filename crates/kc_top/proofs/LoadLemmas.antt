@@ -2,7 +2,7 @@
 -- steps found. Each lemma takes what comes of the rest of the work to what comes of the work that begins with the file; a cause that comes
 -- where nothing follows (`Never`) comes whatever follows (`-cut`).
 use Rattle.std.proofs.Common.{◌≡◌, ◌≢◌, ℕ, ◌≤◌, List, length, refl, ap, sym, inl, inr, subst}
-use Rattle.std.specs.Prelude.{Option, IfSome, IfErr, IsErrAnd, Result, Ok, Err}
+use Rattle.std.specs.Prelude.{Option, None, IfSome, IfErr, IsErrAnd, Result, Ok, Err}
 use Rattle.kc_io.specs.Files.{Held, FilesState, FilesKept, HasFailed, IsWhole}
 use Rattle.kc_image.specs.Image.{Contents}
 use Rattle.kc_image.specs.ImageFile.{contents_of}
@@ -28,10 +28,11 @@ use Rattle.kc_top.specs.declared.stop.Stop.TheVariants.{BadTrace, NoMemory}
 use Rattle.kc_top.specs.Words.{Inputs}
 use Rattle.kc_top.specs.Work.{Work, Ruled, form, Comes}
 use Rattle.kc_top.specs.Output.{IMAGE_LIMIT, CONFIG_LIMIT, CERT_LIMIT, TRACE_LIMIT, bad_image, bad_config, bad_cert}
-use Rattle.kc_top.specs.Output.{bad_trace, IsBrokenRule, of_files, configured, loaded, certified, IsNotStarted}
+use Rattle.kc_top.specs.Output.{bad_trace, IsBrokenRule, of_files, stated, configured, loaded, made, certified, IsNotStarted}
 use Rattle.kc_top.specs.Output.{scripted_by, AreLoaded, IsCertificateOf}
-use Rattle.kc_top.specs.OutputSteps.{outcome_of, IsNoImage, IsNoDescription, IsNoTrace, IsScripted, Never}
-use Rattle.kc_top.proofs.WorkLemmas.{Comes-more, Wants-map, form-map, Ruled-map}
+use Rattle.kc_top.specs.OutputSteps.{outcome_of, IsNoImage, IsNoDescription, IsNoTrace, IsScripted, IsOfBytes, IsUnmade}
+use Rattle.kc_top.specs.OutputSteps.{Never}
+use Rattle.kc_top.proofs.WorkLemmas.{Comes-more, Wants-map, form-map, Ruled-map, WantsNone, none-form}
 use Rattle.kc_top.proofs.OutputLemmas.{Rose-before}
 use Rattle.kc_top.proofs.ReadLemmas.{after_read, after_form, unformed}
 
@@ -152,6 +153,68 @@ loaded-cut told rose inputs next o =
     (ruled (λ text cfg. next (of_files file image text cfg)) text) o
     (λ cfg. Ruled-map told rose (IsBrokenRule cfg) (IsValid cfg) Never (next (of_files file image text cfg)) o
     (λ no. absurd no)))))
+
+-- ---- an image and a description that are made
+
+-- what follows of an image
+abbrev pub stated_by : List ℕ → List ℕ → (Loaded → Work) → Contents → Work
+stated_by file text next image = stated image text (λ cfg. next (of_files file image text cfg))
+
+-- no file is read
+pub none-made : (file text : List ℕ) (next : Loaded → Work) → ((l : Loaded) → WantsNone (next l)) →
+    WantsNone (made file text next)
+none-made file text next none = none-form bad_image (contents_of file) (stated_by file text next)
+    (λ image. none-form bad_config (description image.symbols text)
+    (ruled (λ text cfg. next (of_files file image text cfg)) text) (λ cfg. none (of_files file image text cfg)))
+
+-- the bytes are no image
+pub unmade-image : (file text : List ℕ) (stop : Stop) → IsNoImage file stop → IsUnmade file text stop
+unmade-image file text (BadImage fault) is =
+    unformed None (λ _. ⊥) bad_image (contents_of file) (stated_by file text (λ l. Never)) fault is
+unmade-image file text NoMemory is = tt
+unmade-image file text (ReadFault name) is = absurd is
+unmade-image file text (TooLarge name) is = absurd is
+unmade-image file text (BadConfig fault) is = absurd is
+unmade-image file text (BadCert fault) is = absurd is
+unmade-image file text (BadTrace fault) is = absurd is
+
+-- they are, and the text is no description
+pub unmade-config : (file text : List ℕ) (image : Contents) (stop : Stop) → contents_of file ≡ Ok image →
+    IsNoDescription image text stop → IsUnmade file text stop
+unmade-config file text image (BadConfig fault) is no =
+    after_form None (λ _. ⊥) bad_image (contents_of file) (stated_by file text (λ l. Never)) image (bad_config fault) is
+    (first_fault None (λ _. ⊥) image (λ cfg. Never) text fault no)
+unmade-config file text image NoMemory is no = tt
+unmade-config file text image (ReadFault name) is no = absurd no
+unmade-config file text image (TooLarge name) is no = absurd no
+unmade-config file text image (BadImage fault) is no = absurd no
+unmade-config file text image (BadCert fault) is no = absurd no
+unmade-config file text image (BadTrace fault) is no = absurd no
+
+-- what was made is what its bytes say
+of_its_bytes : (file text : List ℕ) (l : Loaded) → (is : IsOfBytes file text l) → of_files file l.image text l.config ≡ l
+of_its_bytes file text l is = λ i. record { image = l.image; config = l.config; digests = (sym is.digests) i }
+
+-- after both what follows of them is due
+pub after_made : (told : Option Held) (rose : List ℕ → Type 0) (file text : List ℕ) (next : Loaded → Work) (l : Loaded) →
+    IsOfBytes file text l → (o : Outcome) → Comes told rose (next l) o → Comes told rose (made file text next) o
+after_made told rose file text next l is o follows =
+    let then = subst (λ (m : Loaded). Comes told rose (next m) o) (sym (of_its_bytes file text l is)) follows in
+    after_form told rose bad_image (contents_of file) (stated_by file text next) l.image o is.is_image
+    (after_form told rose bad_config (description l.image.symbols text)
+    (ruled (λ text cfg. next (of_files file l.image text cfg)) text) l.config o is.is_description
+    (inr (is.valid, then)))
+
+-- what comes where nothing follows of them
+pub made-cut : (told : Option Held) (rose : List ℕ → Type 0) (file text : List ℕ) (next : Loaded → Work) (o : Outcome) →
+    Comes told rose (made file text (λ l. Never)) o → Comes told rose (made file text next) o
+made-cut told rose file text next o =
+    let none : Loaded → Work = λ l. Never in
+    form-map told rose bad_image (contents_of file) (stated_by file text none) (stated_by file text next) o
+    (λ image. form-map told rose bad_config (description image.symbols text) (ruled (λ text cfg. Never) text)
+    (ruled (λ text cfg. next (of_files file image text cfg)) text) o
+    (λ cfg. Ruled-map told rose (IsBrokenRule cfg) (IsValid cfg) Never (next (of_files file image text cfg)) o
+    (λ no. absurd no)))
 
 -- ---- the certificate
 

@@ -1,6 +1,6 @@
 -- What comes of the program's own work, by cases on the request and its forms: each end has at most one outcome, whose
--- status is its own, and one where the request is decided; an accepted outcome of a check says that the certificate is certified, and a refused one that it
--- isn't. How an outcome is told is read off what was written.
+-- status is its own, and one where the request is decided; an accepted outcome of a check says that the certificate is
+-- certified, and a refused one that it isn't. How an outcome is told is read off what was written.
 use Rattle.std.proofs.Common.{◌≡◌, ◌≢◌, ℕ, ◌≤◌, Bool, true, false, List, length, refl, ap, sym, ◌∙◌, arith, inl, inr, subst}
 use Rattle.std.proofs.Common.{◌+◌, ◌<◌, take, length-append, length-take}
 use Rattle.std.specs.Prelude.{Option, Some, None, IfSome, IsSomeAnd, Result, Ok, Err, IsSome}
@@ -22,22 +22,26 @@ use Rattle.kc_trace.specs.declared.line.Line.{Line}
 use Rattle.kc_trace.specs.Script.{scripted}
 use Rattle.kc_replay.specs.Told.{IsReplayed}
 use Rattle.kc_cert.specs.declared.certificate.Certificate.{Certificate}
+use Rattle.kc_cert.specs.declared.refusal.Refusal.{Refusal}
 use Rattle.kc_certfields.specs.declared.fault.CertFault.{CertFault}
+use Rattle.kc_certform.specs.CertBytes.{CertBytes2}
 use Rattle.kc_certfmt.specs.Reading.{cert_at}
+use Rattle.kc_gen.specs.Generated.{generated_image, generated_config}
 use Rattle.kc_top.specs.declared.load.Loaded.{Loaded}
 use Rattle.kc_top.specs.declared.status.Status.{Status}
 use Rattle.kc_top.specs.declared.status.Status.TheVariants.{Done, Refused, BadImage, BadConfig, BadCert, ReadFault}
 use Rattle.kc_top.specs.declared.status.Status.TheVariants.{WriteFault, NoMemory, TooLarge}
 use Rattle.kc_top.specs.declared.outcome.Outcome.{Outcome}
-use Rattle.kc_top.specs.Words.{Inputs, Request, Check, Replay, Upgrade}
+use Rattle.kc_top.specs.Words.{Inputs, Request, Check, Find, Explain, ExplainCert, Replay, Gen, Upgrade}
 use Rattle.kc_top.specs.Work.{Work, Over, Wants, Ruled, Only, form, IsRead, Comes}
 use Rattle.kc_top.specs.Output.{CERT_LIMIT, CONFIG_LIMIT, IMAGE_LIMIT, usage, bad_image, bad_config, bad_cert, bad_trace}
-use Rattle.kc_top.specs.Output.{IsBrokenRule, of_files, configured, loaded, certified, scripted_by, run_status, IsRun}
-use Rattle.kc_top.specs.Output.{IsVerdict, upgraded, work_of}
-use Rattle.kc_top.specs.Output.{AreLoaded, IsCertificateOf, IsCertifiedFor, IsUncertifiedFor, OfCheck, IsDecided}
-use Rattle.kc_top.specs.Output.{Tells}
+use Rattle.kc_top.specs.Output.{IsBrokenRule, of_files, stated, configured, loaded, made, certified, scripted_by, run_status}
+use Rattle.kc_top.specs.Output.{IsRun, counted, refused, explained, IsJudgement, IsVerdict, IsExplained, printed, limits}
+use Rattle.kc_top.specs.Output.{IsSearched, IsFound, summed, IsSummed, work_of}
+use Rattle.kc_top.specs.Output.{AreLoaded, IsCertificateOf, IsCertifiedFor, IsUncertifiedFor, OfCheck, OfFind, IsDecided}
+use Rattle.kc_top.specs.Output.{IsTied, Tells}
 use Rattle.kc_decided.proofs.FaultLemmas.{rule_fault-once, rule_fault-none, rule_fault-or}
-use Rattle.kc_top.proofs.VerdictLemmas.{verdict-once, verdict-some, verdict-done, verdict-refused}
+use Rattle.kc_top.proofs.VerdictLemmas.{judgement-once, judgement-some, judgement-done, judgement-refused}
 use Rattle.kc_top.proofs.WorkLemmas.{IsEach, each-form, Comes-each, IsSingle, single-only, single-form, IsEnding}
 use Rattle.kc_top.proofs.WorkLemmas.{ending-only, ending-form, ending-form-of}
 
@@ -72,8 +76,20 @@ checks cert l = certified cert (λ c. Over (IsVerdict l c))
 abbrev pub replays : List ℕ → Loaded → Work
 replays trace l = scripted_by l.config trace (λ lines. Over (IsRun l.image l.config lines))
 
+abbrev pub finds : Loaded → Work
+finds l = Over (IsFound l)
+
+abbrev pub explains : Loaded → Work
+explains l = Over (IsSearched l (IsExplained l))
+
+abbrev pub explains_cert : List ℕ → Loaded → Work
+explains_cert cert l = certified cert (λ c. Over (IsExplained l c))
+
+abbrev pub sums_up : ℕ → ℕ → Loaded → Work
+sums_up seed size l = Over (IsSummed seed size l)
+
 abbrev pub upgrades : Certificate → Work
-upgrades c = Only (upgraded c)
+upgrades c = Only (printed c)
 
 -- ---- work that begins with an image and a description, or with a certificate
 
@@ -91,29 +107,53 @@ single-certified : (cert : List ℕ) (next : Certificate → Work) → ((c : Cer
     IsSingle (certified cert next)
 single-certified cert next single = λ file. single-form bad_cert (cert_at file) next single
 
+ending-stated : (image : Contents) (text : List ℕ) (next : Description → Work) →
+    ((cfg : Description) → IsEnding (next cfg)) → IsEnding (stated image text next)
+ending-stated image text next ending = ending-form-of bad_config (description image.symbols text) (ruled next)
+    (λ cfg is. elim (rule_fault-or image.symbols text cfg is) [
+      | inl fault ↦ inl (bad_config fault.0, (fault.0, fault.1, refl))
+      | inr valid ↦ inr (valid, ending cfg)
+    ])
+
 ending-loaded : (inputs : Inputs) (next : Loaded → Work) → ((l : Loaded) → IsEnding (next l)) →
     IsEnding (loaded inputs next)
 ending-loaded inputs next ending = λ file. ending-form bad_image (contents_of file) (described inputs next file)
-    (λ image text. ending-form-of bad_config (description image.symbols text)
-    (ruled (λ cfg. next (of_files file image text cfg)))
-    (λ cfg is. elim (rule_fault-or image.symbols text cfg is) [
-      | inl fault ↦ inl (bad_config fault.0, (fault.0, fault.1, refl))
-      | inr valid ↦ inr (valid, ending (of_files file image text cfg))
-    ]))
+    (λ image text. ending-stated image text (λ cfg. next (of_files file image text cfg))
+    (λ cfg. ending (of_files file image text cfg)))
+
+ending-made : (file text : List ℕ) (next : Loaded → Work) → ((l : Loaded) → IsEnding (next l)) →
+    IsEnding (made file text next)
+ending-made file text next ending = ending-form bad_image (contents_of file)
+    (λ image. stated image text (λ cfg. next (of_files file image text cfg)))
+    (λ image. ending-stated image text (λ cfg. next (of_files file image text cfg))
+    (λ cfg. ending (of_files file image text cfg)))
 
 ending-certified : (cert : List ℕ) (next : Certificate → Work) → ((c : Certificate) → IsEnding (next c)) →
     IsEnding (certified cert next)
 ending-certified cert next ending = λ file. ending-form bad_cert (cert_at file) next ending
 
+each-stated : (P : Outcome → Type 0) (image : Contents) (text : List ℕ) (next : Description → Work) →
+    ((fault : ConfigFault) → P (bad_config fault)) → ((cfg : Description) → IsEach P (next cfg)) →
+    IsEach P (stated image text next)
+each-stated P image text next config_fault each =
+    each-form P bad_config (description image.symbols text) (ruled next) config_fault
+    (λ cfg. (λ o is. subst P (sym is.2) (config_fault is.0), each cfg))
+
 each-loaded : (P : Outcome → Type 0) (inputs : Inputs) (next : Loaded → Work) →
     ((fault : ImageFault) → P (bad_image fault)) → ((fault : ConfigFault) → P (bad_config fault)) →
     ((l : Loaded) → IsEach P (next l)) → IsEach P (loaded inputs next)
-each-loaded P inputs next image_fault config_fault each = λ file. each-form P bad_image (contents_of file) _ image_fault
-    (λ image text. each-form P bad_config (description image.symbols text) _ config_fault
-    (λ cfg. (
-      λ o is. subst P (sym is.2) (config_fault is.0),
-      each (of_files file image text cfg),
-    )))
+each-loaded P inputs next image_fault config_fault each =
+    λ file. each-form P bad_image (contents_of file) (described inputs next file) image_fault
+    (λ image text. each-stated P image text (λ cfg. next (of_files file image text cfg)) config_fault
+    (λ cfg. each (of_files file image text cfg)))
+
+each-made : (P : Outcome → Type 0) (file text : List ℕ) (next : Loaded → Work) →
+    ((fault : ImageFault) → P (bad_image fault)) → ((fault : ConfigFault) → P (bad_config fault)) →
+    ((l : Loaded) → IsEach P (next l)) → IsEach P (made file text next)
+each-made P file text next image_fault config_fault each = each-form P bad_image (contents_of file)
+    (λ image. stated image text (λ cfg. next (of_files file image text cfg))) image_fault
+    (λ image. each-stated P image text (λ cfg. next (of_files file image text cfg)) config_fault
+    (λ cfg. each (of_files file image text cfg)))
 
 each-certified : (P : Outcome → Type 0) (cert : List ℕ) (next : Certificate → Work) →
     ((fault : CertFault) → P (bad_cert fault)) → ((c : Certificate) → IsEach P (next c)) → IsEach P (certified cert next)
@@ -121,27 +161,40 @@ each-certified P cert next fault each = λ file. each-form P bad_cert (cert_at f
 
 -- ---- each request
 
--- no end has two outcomes
-pub single : IsToldOnce → (request : Option Request) → IsSingle (work_of request)
-single once None = single-only usage
-single once (Some (Check inputs cert)) = single-loaded inputs (checks cert)
-    (λ l. single-certified cert (λ c. Over (IsVerdict l c)) (λ c. verdict-once l c))
-single once (Some (Replay inputs trace)) = single-loaded inputs (replays trace)
+-- no end of a tied request has two outcomes
+pub single : IsToldOnce → (request : Option Request) → IsTied request → IsSingle (work_of request)
+single once None tied = single-only usage
+single once (Some (Check inputs cert)) tied = single-loaded inputs (checks cert)
+    (λ l. single-certified cert (λ c. Over (IsVerdict l c)) (λ c. judgement-once counted (refused l.config) l c))
+single once (Some (Find inputs)) tied = absurd tied
+single once (Some (Explain inputs)) tied = absurd tied
+single once (Some (ExplainCert inputs cert)) tied = single-loaded inputs (explains_cert cert)
+    (λ l. single-certified cert (λ c. Over (IsExplained l c))
+    (λ c. judgement-once counted (explained l.image l.config c) l c))
+single once (Some (Replay inputs trace)) tied = single-loaded inputs (replays trace)
     (λ l script. single-form bad_trace (scripted script) _
     (λ read. (
       λ o p is is'. is.1 ∙ sym is'.1,
       λ o is starts. is.0 starts,
       λ starts. single-run once l.image l.config read.lines,
     )))
-single once (Some (Upgrade cert)) = single-certified cert upgrades (λ c. single-only (upgraded c))
+single once (Some (Gen seed size)) tied = absurd tied
+single once (Some (Upgrade cert)) tied = single-certified cert upgrades (λ c. single-only (printed c))
 
--- each end of a decided request has an outcome
+-- each end of a decided request has an outcome; where no certificate is found it is `limits`
 pub ending : (request : Option Request) → IsDecided request → IsEnding (work_of request)
 ending None decided = ending-only usage
 ending (Some (Check inputs cert)) decided = ending-loaded inputs (checks cert)
-    (λ l. ending-certified cert (λ c. Over (IsVerdict l c)) (λ c. verdict-some l c))
+    (λ l. ending-certified cert (λ c. Over (IsVerdict l c)) (λ c. judgement-some counted (refused l.config) l c))
+ending (Some (Find inputs)) decided = ending-loaded inputs finds (λ l. (limits, inr refl))
+ending (Some (Explain inputs)) decided = ending-loaded inputs explains (λ l. (limits, inr refl))
+ending (Some (ExplainCert inputs cert)) decided = ending-loaded inputs (explains_cert cert)
+    (λ l. ending-certified cert (λ c. Over (IsExplained l c))
+    (λ c. judgement-some counted (explained l.image l.config c) l c))
 ending (Some (Replay inputs trace)) decided = absurd decided
-ending (Some (Upgrade cert)) decided = ending-certified cert upgrades (λ c. ending-only (upgraded c))
+ending (Some (Gen seed size)) decided =
+    ending-made (generated_image seed size) generated_config (sums_up seed size) (λ l. (limits, inr refl))
+ending (Some (Upgrade cert)) decided = ending-certified cert upgrades (λ c. ending-only (printed c))
 
 -- a status that an end of the work may have
 pub record IsOwn (status : Status) : Type 0 where
@@ -152,18 +205,43 @@ pub record IsOwn (status : Status) : Type 0 where
 abbrev pub IsOwnEnd : Outcome → Type 0
 IsOwnEnd o = IsOwn o.status
 
-pub own-verdict : (l : Loaded) (cert : Certificate) (o : Outcome) → IsVerdict l cert o → IsOwnEnd o
-own-verdict l cert o (inl a) = subst IsOwnEnd (sym a.1)
-    (record { written = λ no. cc; remembered = λ no. cc; read = λ no. cc })
-own-verdict l cert o (inr a) = subst IsOwnEnd (sym a.2)
-    (record { written = λ no. cc; remembered = λ no. cc; read = λ no. cc })
+own-done : (text : List ℕ) → IsOwnEnd (record { status = Done; text = text })
+own-done text = record { written = λ no. cc; remembered = λ no. cc; read = λ no. cc }
+
+own-refused : (text : List ℕ) → IsOwnEnd (record { status = Refused; text = text })
+own-refused text = record { written = λ no. cc; remembered = λ no. cc; read = λ no. cc }
+
+own-judgement : (yes : Certificate → Outcome) (no : Refusal → Outcome) (l : Loaded) (cert : Certificate) (o : Outcome) →
+    ((c : Certificate) → IsOwnEnd (yes c)) → ((r : Refusal) → IsOwnEnd (no r)) → IsJudgement yes no l cert o → IsOwnEnd o
+own-judgement yes no l cert o accepts refuses (inl a) = subst IsOwnEnd (sym a.1) (accepts cert)
+own-judgement yes no l cert o accepts refuses (inr a) = subst IsOwnEnd (sym a.2) (refuses a.0)
+
+own-searched : (judged : Certificate → Outcome → Type 0) (l : Loaded) (o : Outcome) →
+    ((c : Certificate) (p : Outcome) → judged c p → IsOwnEnd p) → IsSearched l judged o → IsOwnEnd o
+own-searched judged l o each (inl found) = each found.0 o found.2
+own-searched judged l o each (inr none) = subst IsOwnEnd (sym none) (own-refused limits.text)
+
+own-verdict : (l : Loaded) (cert : Certificate) (o : Outcome) → IsVerdict l cert o → IsOwnEnd o
+own-verdict l cert o = own-judgement counted (refused l.config) l cert o (λ c. own-done (counted c).text)
+    (λ r. own-refused (refused l.config r).text)
+
+own-explained : (l : Loaded) (cert : Certificate) (o : Outcome) → IsExplained l cert o → IsOwnEnd o
+own-explained l cert o = own-judgement counted (explained l.image l.config cert) l cert o (λ c. own-done (counted c).text)
+    (λ r. own-refused (explained l.image l.config cert r).text)
+
+own-found : (l : Loaded) (o : Outcome) → IsFound l o → IsOwnEnd o
+own-found l o = own-searched (IsJudgement printed (refused l.config) l) l o
+    (λ c p. own-judgement printed (refused l.config) l c p (λ c. own-done (printed c).text)
+    (λ r. own-refused (refused l.config r).text))
+
+own-summed : (seed size : ℕ) (l : Loaded) (o : Outcome) → IsSummed seed size l o → IsOwnEnd o
+own-summed seed size l o = own-searched (IsJudgement (summed seed size) (refused l.config) l) l o
+    (λ c p. own-judgement (summed seed size) (refused l.config) l c p (λ c. own-done (summed seed size c).text)
+    (λ r. own-refused (refused l.config r).text))
 
 pub own-run : (clean : Bool) → IsOwn (run_status clean)
 own-run true = record { written = λ no. cc; remembered = λ no. cc; read = λ no. cc }
 own-run false = record { written = λ no. cc; remembered = λ no. cc; read = λ no. cc }
-
-pub own-upgraded : (cert : Certificate) → IsOwnEnd (upgraded cert)
-own-upgraded cert = record { written = λ no. cc; remembered = λ no. cc; read = λ no. cc }
 
 own-image : (fault : ImageFault) → IsOwnEnd (bad_image fault)
 own-image fault = record { written = λ no. cc; remembered = λ no. cc; read = λ no. cc }
@@ -183,14 +261,21 @@ own None = λ o is. subst IsOwnEnd (sym is)
     (record { written = λ no. cc; remembered = λ no. cc; read = λ no. cc })
 own (Some (Check inputs cert)) = each-loaded IsOwnEnd inputs (checks cert) own-image own-config
     (λ l. each-certified IsOwnEnd cert (λ c. Over (IsVerdict l c)) own-cert (λ c. own-verdict l c))
+own (Some (Find inputs)) = each-loaded IsOwnEnd inputs finds own-image own-config own-found
+own (Some (Explain inputs)) = each-loaded IsOwnEnd inputs explains own-image own-config
+    (λ l o. own-searched (IsExplained l) l o (own-explained l))
+own (Some (ExplainCert inputs cert)) = each-loaded IsOwnEnd inputs (explains_cert cert) own-image own-config
+    (λ l. each-certified IsOwnEnd cert (λ c. Over (IsExplained l c)) own-cert (λ c. own-explained l c))
 own (Some (Replay inputs trace)) = each-loaded IsOwnEnd inputs (replays trace) own-image own-config
     (λ l script. each-form IsOwnEnd bad_trace (scripted script) _ own-trace
     (λ read. (
       λ o is. subst IsOwnEnd (sym is.1) (own-trace (NotAdmitted read.start)),
       λ o is. subst IsOwn (sym is.2) (own-run is.0),
     )))
+own (Some (Gen seed size)) = each-made IsOwnEnd (generated_image seed size) generated_config (sums_up seed size)
+    own-image own-config (own-summed seed size)
 own (Some (Upgrade cert)) = each-certified IsOwnEnd cert upgrades own-cert
-    (λ c o is. subst IsOwnEnd (sym is) (own-upgraded c))
+    (λ c o is. subst IsOwnEnd (sym is) (own-done (CertBytes2 c)))
 
 -- a status that a text goes with
 pub record IsSaid (status : Status) : Type 0 where
@@ -319,14 +404,15 @@ certified-judged told rose cert next o comes judged =
       read.2,
     )
 
--- what a verdict with this status says, of the files of a check
+-- what a judgement with this status says, of the files of a check or of an explanation
 pub checked : (told : Option Held) (rose : List ℕ → Type 0) (request : Option Request) (o : Outcome)
     (P : Loaded → Certificate → Type 0) → IsJudged o.status →
-    ((l : Loaded) (c : Certificate) → IsVerdict l c o → P l c) → Comes told rose (work_of request) o →
+    ((l : Loaded) (c : Certificate) → IsVerdict l c o → P l c) →
+    ((l : Loaded) (c : Certificate) → IsExplained l c o → P l c) → Comes told rose (work_of request) o →
     OfCheck told request P
-checked None rose request o P judged says comes = tt
-checked (Some held) rose None o P judged says comes = tt
-checked (Some held) rose (Some (Check inputs cert)) o P judged says comes =
+checked None rose request o P judged says tells comes = tt
+checked (Some held) rose None o P judged says tells comes = tt
+checked (Some held) rose (Some (Check inputs cert)) o P judged says tells comes =
     let l = loaded-judged (Some held) rose inputs (checks cert) o comes judged in
     let c = certified-judged (Some held) rose cert (λ c. Over (IsVerdict l.0 c)) o l.2 judged in record {
       loaded = l.0;
@@ -335,21 +421,65 @@ checked (Some held) rose (Some (Check inputs cert)) o P judged says comes =
       is_certificate = c.1;
       holds = says l.0 c.0 c.2;
     }
-checked (Some held) rose (Some (Replay inputs trace)) o P judged says comes = tt
-checked (Some held) rose (Some (Upgrade cert)) o P judged says comes = tt
+checked (Some held) rose (Some (Find inputs)) o P judged says tells comes = tt
+checked (Some held) rose (Some (Explain inputs)) o P judged says tells comes = tt
+checked (Some held) rose (Some (ExplainCert inputs cert)) o P judged says tells comes =
+    let l = loaded-judged (Some held) rose inputs (explains_cert cert) o comes judged in
+    let c = certified-judged (Some held) rose cert (λ c. Over (IsExplained l.0 c)) o l.2 judged in record {
+      loaded = l.0;
+      certificate = c.0;
+      are_loaded = l.1;
+      is_certificate = c.1;
+      holds = tells l.0 c.0 c.2;
+    }
+checked (Some held) rose (Some (Replay inputs trace)) o P judged says tells comes = tt
+checked (Some held) rose (Some (Gen seed size)) o P judged says tells comes = tt
+checked (Some held) rose (Some (Upgrade cert)) o P judged says tells comes = tt
 
 -- an accepted certificate is certified
 pub checked-done : (told : Option Held) (rose : List ℕ → Type 0) (request : Option Request) (o : Outcome) →
     Comes told rose (work_of request) o → o.status ≡ Done → OfCheck told request IsCertifiedFor
 checked-done told rose request o comes done =
-    checked told rose request o IsCertifiedFor (judged-done o.status done) (λ l c is. verdict-done l c o is done) comes
+    checked told rose request o IsCertifiedFor (judged-done o.status done)
+    (λ l c is. (judgement-done counted (refused l.config) l c o (λ r. refl) is done).0)
+    (λ l c is. (judgement-done counted (explained l.image l.config c) l c o (λ r. refl) is done).0) comes
 
 -- a refused one isn't
 pub checked-refused : (told : Option Held) (rose : List ℕ → Type 0) (request : Option Request) (o : Outcome) →
     Comes told rose (work_of request) o → o.status ≡ Refused → OfCheck told request IsUncertifiedFor
 checked-refused told rose request o comes refuses =
     checked told rose request o IsUncertifiedFor (judged-refused o.status refuses)
-    (λ l c is. verdict-refused l c o is refuses) comes
+    (λ l c is. judgement-refused counted (refused l.config) l c o (λ c. refl) is refuses)
+    (λ l c is. judgement-refused counted (explained l.image l.config c) l c o (λ c. refl) is refuses) comes
+
+-- a search that is Done has found a certified certificate, which is its text
+searched-done : (l : Loaded) (o : Outcome) → IsFound l o → o.status ≡ Done →
+    (cert : Certificate) × IsCertifiedFor l cert × (o ≡ printed cert)
+searched-done l o (inl found) done =
+    let is = judgement-done printed (refused l.config) l found.0 o (λ r. refl) found.2 done in (found.0, is.0, is.1)
+searched-done l o (inr none) done = let is = ap (λ (p : Outcome). p.status) none in absurd (cc)
+
+-- what was written where a search is Done
+pub found-done : (told : Option Held) (rose : List ℕ → Type 0) (request : Option Request) (o : Outcome)
+    (before after : SinkState) → Comes told rose (work_of request) o → o.status ≡ Done → Writes before after o.text →
+    OfFind told request before after
+found-done None rose request o before after comes done writes = tt
+found-done (Some held) rose None o before after comes done writes = tt
+found-done (Some held) rose (Some (Check inputs cert)) o before after comes done writes = tt
+found-done (Some held) rose (Some (Find inputs)) o before after comes done writes =
+    let l = loaded-judged (Some held) rose inputs finds o comes (judged-done o.status done) in
+    let found = searched-done l.0 o l.2 done in record {
+      loaded = l.0;
+      certificate = found.0;
+      are_loaded = l.1;
+      certified = found.1;
+      written = subst (λ (p : Outcome). Writes before after p.text) found.2 writes;
+    }
+found-done (Some held) rose (Some (Explain inputs)) o before after comes done writes = tt
+found-done (Some held) rose (Some (ExplainCert inputs cert)) o before after comes done writes = tt
+found-done (Some held) rose (Some (Replay inputs trace)) o before after comes done writes = tt
+found-done (Some held) rose (Some (Gen seed size)) o before after comes done writes = tt
+found-done (Some held) rose (Some (Upgrade cert)) o before after comes done writes = tt
 
 -- how an outcome is told, from what was written
 pub tells : (o : Outcome) (status : Status) (before after : SinkState) → o.status ≢ WriteFault →

@@ -10,7 +10,8 @@ use Rattle.kc_top.specs.declared.stop.Stop.{Stop}
 use Rattle.kc_top.specs.declared.stop.Stop.TheVariants.{ReadFault, TooLarge, BadImage, BadConfig, BadCert, BadTrace}
 use Rattle.kc_top.specs.declared.stop.Stop.TheVariants.{NoMemory}
 use Rattle.kc_top.specs.Work.{Work, Wants, form, Comes, read_fault, too_large}
-use Rattle.kc_top.specs.OutputSteps.{outcome_of, IsUnread, Ends}
+use Rattle.kc_top.specs.OutputSteps.{outcome_of, IsUnread, Concludes, Ends}
+use Rattle.kc_top.proofs.WorkLemmas.{WantsNone, Comes-anywhere}
 use Rattle.kc_top.proofs.OutputLemmas.{Rose-before}
 
 -- what a value gives, the other gives too
@@ -78,3 +79,34 @@ pub ends_early : (told : Option Held) (rose : List ℕ → Type 0) (w : Work) (s
 ends_early told rose w sink stop (Ok status) is comes = absurd is
 ends_early told rose w sink stop (Err e) is comes =
     (subst (λ (e : Stop). IfSome (outcome_of e) (Comes told rose w)) (sym is) comes, refl)
+
+-- a part that concludes with what comes of the work ends it
+pub concludes-ends : (told : Option Held) (rose : List ℕ → Type 0) (w : Work) (ends : Outcome → Type 0)
+    (before after : SinkState) (r : Result Status Stop) → ((o : Outcome) → ends o → Comes told rose w o) →
+    Concludes ends before after r → Ends told rose w before after r
+concludes-ends told rose w ends before after (Ok status) f told_so = (told_so.0, f told_so.0 told_so.1, told_so.2)
+concludes-ends told rose w ends before after (Err stop) f early =
+    (subst (λ (s : Stop). IfSome (outcome_of s) (Comes told rose w)) (sym early.0) tt, early.1)
+
+-- what concludes with one of some outcomes concludes with one of others that hold of them
+pub Concludes-map : (ends other : Outcome → Type 0) (before after : SinkState) (r : Result Status Stop) →
+    ((o : Outcome) → ends o → other o) → Concludes ends before after r → Concludes other before after r
+Concludes-map ends other before after (Ok status) f told_so = (told_so.0, f told_so.0 told_so.1, told_so.2)
+Concludes-map ends other before after (Err stop) f early = early
+
+-- want of memory that was handed on
+pub concludes_early : (ends : Outcome → Type 0) (sink : SinkState) (stop : Stop) (r : Result Status Stop) →
+    IsErrAnd r (λ e. e ≡ stop) → stop ≡ NoMemory → Concludes ends sink sink r
+concludes_early ends sink stop (Ok status) is memory = absurd is
+concludes_early ends sink stop (Err e) is memory = (is ∙ memory, refl)
+
+-- work that reads no file ends the same whatever the files are
+pub Ends-anywhere : (told other : Option Held) (rose more : List ℕ → Type 0) (w : Work) (before after : SinkState)
+    (r : Result Status Stop) → WantsNone w → Ends told rose w before after r → Ends other more w before after r
+Ends-anywhere told other rose more w before after (Ok status) none ends =
+    (ends.0, Comes-anywhere told other rose more w ends.0 none ends.1, ends.2)
+Ends-anywhere told other rose more w before after (Err stop) none ends = (
+  IfSome-map (Comes told rose w) (Comes other more w) (λ o. Comes-anywhere told other rose more w o none)
+      (outcome_of stop) ends.0,
+  ends.1,
+)

@@ -1,36 +1,84 @@
--- A certificate has one verdict, since it is certified or has a first refusal, and not both; the status tells which it is.
-use Rattle.std.proofs.Common.{◌≡◌, length, refl, ap, sym, ◌∙◌, inl, inr}
+-- A certificate has one judgement, since it is certified or has a first refusal, and not both; the status tells which it
+-- is. A search has an outcome in any case, and how a table that it found is printed is one.
+use Rattle.std.proofs.Common.{◌≡◌, ◌≢◌, refl, ap, sym, ◌∙◌, inl, inr}
+use Rattle.kc_io.specs.Sink.{SinkState}
 use Rattle.kc_cert.specs.declared.certificate.Certificate.{Certificate}
+use Rattle.kc_cert.specs.declared.refusal.Refusal.{Refusal}
 use Rattle.kc_decided.proofs.FormLemmas.{refusal-once, refusal-none, refusal-or}
 use Rattle.kc_top.specs.declared.load.Loaded.{Loaded}
 use Rattle.kc_top.specs.declared.outcome.Outcome.{Outcome}
-use Rattle.kc_top.specs.declared.status.Status.TheVariants.{Done, Refused}
-use Rattle.kc_top.specs.Output.{IsVerdict, IsCertifiedFor, IsUncertifiedFor, accepted, refused}
+use Rattle.kc_top.specs.declared.status.Status.{Status}
+use Rattle.kc_top.specs.declared.status.Status.TheVariants.{Done, Refused, Usage, BadImage, BadConfig, BadCert, BadTrace}
+use Rattle.kc_top.specs.declared.status.Status.TheVariants.{ReadFault, WriteFault, NoMemory, TooLarge}
+use Rattle.kc_top.specs.Output.{IsJudgement, IsCertifiedFor, IsUncertifiedFor, printed, refused, Tells, Prints}
 
--- two verdicts are the same
-pub verdict-once : (l : Loaded) (cert : Certificate) (o p : Outcome) → IsVerdict l cert o → IsVerdict l cert p → o ≡ p
-verdict-once l cert o p (inl a) (inl b) = a.1 ∙ sym b.1
-verdict-once l cert o p (inl a) (inr b) = absurd (refusal-none l.image l.config l.digests cert b.0 b.1 a.0)
-verdict-once l cert o p (inr a) (inl b) = absurd (refusal-none l.image l.config l.digests cert a.0 a.1 b.0)
-verdict-once l cert o p (inr a) (inr b) =
-    a.2 ∙ ap (refused l.config) (refusal-once l.image l.config l.digests cert a.0 b.0 a.1 b.1) ∙ sym b.2
+-- two judgements are the same
+pub judgement-once : (yes : Certificate → Outcome) (no : Refusal → Outcome) (l : Loaded) (cert : Certificate)
+    (o p : Outcome) → IsJudgement yes no l cert o → IsJudgement yes no l cert p → o ≡ p
+judgement-once yes no l cert o p (inl a) (inl b) = a.1 ∙ sym b.1
+judgement-once yes no l cert o p (inl a) (inr b) =
+    absurd (refusal-none l.image l.config l.digests cert b.0 b.1 a.0)
+judgement-once yes no l cert o p (inr a) (inl b) =
+    absurd (refusal-none l.image l.config l.digests cert a.0 a.1 b.0)
+judgement-once yes no l cert o p (inr a) (inr b) =
+    a.2 ∙ ap no (refusal-once l.image l.config l.digests cert a.0 b.0 a.1 b.1) ∙ sym b.2
 
 -- there is one
-pub verdict-some : (l : Loaded) (cert : Certificate) → (o : Outcome) × IsVerdict l cert o
-verdict-some l cert = elim (refusal-or l.image l.config l.digests cert) [
-  | inl certified ↦ (accepted (length cert.contexts) (length cert.nodes), inl (certified, refl))
-  | inr first ↦ (refused l.config first.0, inr (first.0, first.1, refl))
+pub judgement-some : (yes : Certificate → Outcome) (no : Refusal → Outcome) (l : Loaded) (cert : Certificate) →
+    (o : Outcome) × IsJudgement yes no l cert o
+judgement-some yes no l cert = elim (refusal-or l.image l.config l.digests cert) [
+  | inl certified ↦ (yes cert, inl (certified, refl))
+  | inr first ↦ (no first.0, inr (first.0, first.1, refl))
 ]
 
--- a verdict that is Done says that the certificate is certified
-pub verdict-done : (l : Loaded) (cert : Certificate) (o : Outcome) → IsVerdict l cert o → o.status ≡ Done →
-    IsCertifiedFor l cert
-verdict-done l cert o (inl a) done = a.0
-verdict-done l cert o (inr a) done = let no = ap (λ (p : Outcome). p.status) a.2 in absurd (cc)
+-- one that is Done says that the certificate is certified
+pub judgement-done : (yes : Certificate → Outcome) (no : Refusal → Outcome) (l : Loaded) (cert : Certificate)
+    (o : Outcome) → ((r : Refusal) → (no r).status ≡ Refused) → IsJudgement yes no l cert o → o.status ≡ Done →
+    IsCertifiedFor l cert × (o ≡ yes cert)
+judgement-done yes no l cert o refuses (inl a) done = a
+judgement-done yes no l cert o refuses (inr a) done =
+    let is = ap (λ (p : Outcome). p.status) a.2 ∙ refuses a.0 in absurd (cc)
 
 -- and one that is Refused that it isn't
-pub verdict-refused : (l : Loaded) (cert : Certificate) (o : Outcome) → IsVerdict l cert o → o.status ≡ Refused →
+pub judgement-refused : (yes : Certificate → Outcome) (no : Refusal → Outcome) (l : Loaded) (cert : Certificate)
+    (o : Outcome) → ((c : Certificate) → (yes c).status ≡ Done) → IsJudgement yes no l cert o → o.status ≡ Refused →
     IsUncertifiedFor l cert
-verdict-refused l cert o (inl a) refuses = let no = ap (λ (p : Outcome). p.status) a.1 in absurd (cc)
-verdict-refused l cert o (inr a) refuses = λ certified.
+judgement-refused yes no l cert o accepts (inl a) refuses =
+    let is = ap (λ (p : Outcome). p.status) a.1 ∙ accepts cert in absurd (cc)
+judgement-refused yes no l cert o accepts (inr a) refuses = λ certified.
     refusal-none l.image l.config l.digests cert a.0 a.1 certified
+
+-- ---- how a certificate that was checked is printed
+
+-- a status other than want of memory tells the judgement
+pub prints-told : (l : Loaded) (cert : Certificate) (before after : SinkState) (status : Status) → status ≢ NoMemory →
+    Prints l cert before after status →
+    (o : Outcome) × IsJudgement printed (refused l.config) l cert o × Tells o status before after
+prints-told l cert before after Done some is = (
+  printed cert,
+  inl (is.0, refl),
+  record { all = λ _. (refl, is.1); part = λ no. absurd (cc) },
+)
+prints-told l cert before after Refused some is = (
+  refused l.config is.0,
+  inr (is.0, is.1, refl),
+  record { all = λ _. (refl, is.2); part = λ no. absurd (cc) },
+)
+prints-told l cert before after WriteFault some (inl is) = (
+  printed cert,
+  inl (is.0, refl),
+  record { all = λ no. absurd (no refl); part = λ _. is.1 },
+)
+prints-told l cert before after WriteFault some (inr is) = (
+  refused l.config is.0,
+  inr (is.0, is.1, refl),
+  record { all = λ no. absurd (no refl); part = λ _. is.2 },
+)
+prints-told l cert before after NoMemory some is = absurd (some refl)
+prints-told l cert before after Usage some is = absurd is
+prints-told l cert before after BadImage some is = absurd is
+prints-told l cert before after BadConfig some is = absurd is
+prints-told l cert before after BadCert some is = absurd is
+prints-told l cert before after BadTrace some is = absurd is
+prints-told l cert before after ReadFault some is = absurd is
+prints-told l cert before after TooLarge some is = absurd is

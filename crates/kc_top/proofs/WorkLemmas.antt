@@ -6,7 +6,7 @@
 use Rattle.std.proofs.Common.{◌≡◌, ℕ, ◌≤◌, ◌<◌, List, length, refl, sym, ◌∙◌, subst, arith, inl, inr, true, false}
 use Rattle.std.proofs.Math.Dec.{leb}
 use Rattle.std.proofs.lemmas.Bool.Decides.{leb_tells}
-use Rattle.std.specs.Prelude.{◌⊎◌, Option, Some, None, Result, Ok, Err, IsSome, IsSomeAnd}
+use Rattle.std.specs.Prelude.{◌⊎◌, Option, Some, None, Result, Ok, Err, IsSome, IsSomeAnd, ⊤}
 use Rattle.kc_io.specs.Files.{Held, IsLonger}
 use Rattle.kc_top.specs.declared.outcome.Outcome.{Outcome}
 use Rattle.kc_top.specs.Work.{Work, Over, Wants, Ruled, Only, form, read_fault, too_large, Comes, AreHeld}
@@ -201,3 +201,24 @@ pub Ruled-map : (told : Option Held) (rose : List ℕ → Type 0) (broken : Outc
     Comes told rose (Ruled broken holds next) o → Comes told rose (Ruled broken holds other) o
 Ruled-map told rose broken holds next other o f (inl is) = inl is
 Ruled-map told rose broken holds next other o f (inr rest) = inr (rest.0, f rest.1)
+
+-- ---- work for which no file is read
+
+abbrev pub WantsNone : Work → Type 0
+WantsNone (Over ends) = ⊤
+WantsNone (Wants name limit next) = ⊥
+WantsNone (Ruled broken holds next) = WantsNone next
+
+pub none-form : {A E : Type 0} (bad : E → Outcome) (r : Result A E) (next : A → Work) →
+    ((a : A) → WantsNone (next a)) → WantsNone (form bad r next)
+none-form bad (Ok a) next none = none a
+none-form bad (Err e) next none = tt
+
+-- it has the same outcomes whatever the files are
+pub Comes-anywhere : (told other : Option Held) (rose more : List ℕ → Type 0) (w : Work) (o : Outcome) → WantsNone w →
+    Comes told rose w o → Comes other more w o
+Comes-anywhere told other rose more (Over ends) o none is = is
+Comes-anywhere told other rose more (Wants name limit next) o none is = absurd none
+Comes-anywhere told other rose more (Ruled broken holds next) o none (inl is) = inl is
+Comes-anywhere told other rose more (Ruled broken holds next) o none (inr rest) =
+    inr (rest.0, Comes-anywhere told other rose more next o none rest.1)

@@ -1,7 +1,6 @@
 -- The lines that the program prints, this project's own. Each ends with one byte 0A.
-use Rattle.std.specs.Prelude.{ℕ, ◌-◌, List, [], ◌++◌, length, replicate, false, codes, decimal, ◌==◌, if◌then◌else◌}
-use Rattle.std.specs.Prelude.{Option, Some, None}
-use Rattle.std.specs.Fmt.{digits}
+use Rattle.std.specs.Prelude.{ℕ, List, ◌++◌, codes, decimal}
+use Rattle.hex.specs.Hex.{encode_lower}
 use Rattle.kc_image.specs.declared.fault.ImageFault.{ImageFault}
 use Rattle.kc_image.specs.declared.fault.ImageKind.{ImageKind}
 use Rattle.kc_image.specs.declared.fault.ImageKind.TheVariants.{BadMagic, BadClass, BadType, BadMachine, HeaderOut}
@@ -11,26 +10,12 @@ use Rattle.kc_config.specs.declared.fault.ConfigFault.{ConfigFault}
 use Rattle.kc_config.specs.declared.fault.ConfigFault.TheVariants.{Syntax, Missing, WrongKind, OutOfRange, UnknownKey}
 use Rattle.kc_config.specs.declared.fault.ConfigFault.TheVariants.{NoSymbol, Regions, GuardMissing}
 use Rattle.kc_config.specs.declared.fault.ConfigFault.TheVariants.{NoMemory as NoConfigMemory}
-use Rattle.kc_regions.specs.Description.{Description}
-use Rattle.kc_regions.specs.Lookup.{gate_of}
-use Rattle.kc_state.specs.AbsEvents.{debug, nmi, page_fault, machine_check, is_gate}
-use Rattle.kc_state.specs.declared.site.Site.{Site}
-use Rattle.kc_cert.specs.Placed.{is_maskable}
-use Rattle.kc_cert.specs.declared.refusal.Event.{Event}
-use Rattle.kc_cert.specs.declared.refusal.Event.TheVariants.{Vector, Syscall}
-use Rattle.kc_cert.specs.declared.refusal.Refusal.{Refusal}
-use Rattle.kc_cert.specs.declared.refusal.Spot.{Spot}
-use Rattle.kc_cert.specs.declared.refusal.Spot.TheVariants as spot
 use Rattle.kc_certfields.specs.declared.fault.CertFault.{CertFault}
 use Rattle.kc_certfields.specs.declared.fault.CertKind.{CertKind}
 use Rattle.kc_certfields.specs.declared.fault.CertKind.TheVariants as cert
 use Rattle.kc_trace.specs.declared.fault.TraceFault.{TraceFault}
 use Rattle.kc_trace.specs.declared.fault.TraceFault.TheVariants.{BadLine, BadNumber, NotAdmitted}
 use Rattle.kc_trace.specs.declared.fault.TraceFault.TheVariants.{NoMemory as NoTraceMemory}
-
--- `0x` and sixteen hexadecimal digits in lower case
-abbrev pub address_text : ℕ → List ℕ
-address_text a = codes "0x" ++ replicate (16 - length (digits 16 false a)) 48 ++ digits 16 false a
 
 abbrev pub usage_line : List ℕ
 usage_line =
@@ -118,42 +103,18 @@ fault_line NoTraceMemory = 0
 abbrev pub bad_trace_line : TraceFault → List ℕ
 bad_trace_line fault = codes "bad trace " ++ trace_kind fault ++ codes " line " ++ decimal (fault_line fault) ++ codes "\n"
 
--- ---- what `check` says of a certificate
+-- ---- what is said of a certificate
 
 abbrev pub accepted_line : ℕ → ℕ → List ℕ
 accepted_line contexts nodes =
     codes "accepted contexts=" ++ decimal contexts ++ codes " nodes=" ++ decimal nodes ++ codes "\n"
 
--- the event of a vector: a device's interrupt where the gate is for one, and else an exception or an INT of user code
-abbrev pub vector_text : Description → ℕ → List ℕ
-vector_text d v =
-    if v == nmi then codes "nmi"
-    else if v == debug then codes "debug"
-    else if v == machine_check then codes "check"
-    else if v == page_fault then codes "fault"
-    else if is_gate is_maskable (gate_of d.gates v) then codes "irq " ++ decimal v
-    else codes "trap " ++ decimal v
+-- no table was found within the limits on contexts and nodes
+abbrev pub limits_line : List ℕ
+limits_line = codes "refused limits\n"
 
-abbrev pub event_text : Description → Event → List ℕ
-event_text d (Vector v) = vector_text d v
-event_text d Syscall = codes "syscall"
-
--- the site of a node: an instruction, or the body of the handler that is called there
-abbrev pub site_text : Site → List ℕ
-site_text site = address_text site.at ++ (if site.inside then codes " body" else [])
-
--- where a condition fails; of the table as a whole nothing is said
-abbrev pub spot_text : Spot → List ℕ
-spot_text spot.Table = []
-spot_text spot.User = codes " user"
-spot_text (spot.Context i) = codes " context " ++ decimal i
-spot_text (spot.Node i site) = codes " context " ++ decimal i ++ codes " at " ++ site_text site
-
--- at which event it fails, where it does at one
-abbrev pub at_event_text : Description → Option Event → List ℕ
-at_event_text d (Some event) = codes " event " ++ event_text d event
-at_event_text d None = []
-
-abbrev pub refused_line : Description → Refusal → List ℕ
-refused_line d r =
-    codes "refused C" ++ decimal r.condition.0 ++ spot_text r.spot ++ at_event_text d r.event ++ codes "\n"
+-- of so many contexts and nodes that were found for an input that was made, and the SHA-256 of their bytes
+abbrev pub summary_line : ℕ → ℕ → ℕ → ℕ → List ℕ → List ℕ
+summary_line seed size contexts nodes digest =
+    codes "gen seed=" ++ decimal seed ++ codes " size=" ++ decimal size ++ codes " contexts=" ++ decimal contexts
+    ++ codes " nodes=" ++ decimal nodes ++ codes " digest=" ++ encode_lower digest ++ codes "\n"

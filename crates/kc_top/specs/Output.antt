@@ -26,14 +26,17 @@ use Rattle.kc_cert.specs.declared.refusal.Refusal.{Refusal}
 use Rattle.kc_certfields.specs.declared.fault.CertFault.{CertFault}
 use Rattle.kc_certform.specs.CertBytes.{CertBytes2}
 use Rattle.kc_certfmt.specs.Reading.{cert_at}
+use Rattle.kc_explain.specs.Lines.{refused_line}
+use Rattle.kc_explain.specs.Explanation.{explanation}
+use Rattle.kc_gen.specs.Generated.{generated_image, generated_config}
 use Rattle.kc_top.specs.declared.load.Loaded.{Loaded}
 use Rattle.kc_top.specs.declared.status.Status.{Status}
 use Rattle.kc_top.specs.declared.status.Status.TheVariants.{Done, Refused, Usage, BadImage, BadConfig, BadCert}
-use Rattle.kc_top.specs.declared.status.Status.TheVariants.{BadTrace, WriteFault}
+use Rattle.kc_top.specs.declared.status.Status.TheVariants.{BadTrace, WriteFault, NoMemory}
 use Rattle.kc_top.specs.declared.outcome.Outcome.{Outcome}
-use Rattle.kc_top.specs.Words.{Inputs, Request, Check, Replay, Upgrade, request_of}
+use Rattle.kc_top.specs.Words.{Inputs, Request, Check, Find, Explain, ExplainCert, Replay, Gen, Upgrade, request_of}
 use Rattle.kc_top.specs.Lines.{usage_line, bad_image_line, bad_config_line, bad_cert_line, bad_trace_line}
-use Rattle.kc_top.specs.Lines.{accepted_line, refused_line}
+use Rattle.kc_top.specs.Lines.{accepted_line, limits_line, summary_line}
 use Rattle.kc_top.specs.Work.{Work, Over, Wants, Ruled, Only, form, Comes, AreHeld}
 
 -- the most bytes of each kind of file
@@ -70,11 +73,15 @@ bad_trace fault = record { status = BadTrace; text = bad_trace_line fault }
 abbrev pub IsBrokenRule : Description → Outcome → Type 0
 IsBrokenRule cfg o = (fault : ConfigFault) × IsRuleFault cfg fault × (o ≡ bad_config fault)
 
--- the description, whose addresses may name the image's symbols: what its tables say, then the rules between its parts
+-- a text's description, whose addresses may name the image's symbols: what its tables say, then the rules between its
+-- parts
+abbrev pub stated : Contents → List ℕ → (Description → Work) → Work
+stated image text next =
+    form bad_config (description image.symbols text) (λ cfg. Ruled (IsBrokenRule cfg) (IsValid cfg) (next cfg))
+
+-- the description that is read
 abbrev pub configured : List ℕ → Contents → (List ℕ → Description → Work) → Work
-configured config image next =
-    Wants config CONFIG_LIMIT (λ text. form bad_config (description image.symbols text)
-    (λ cfg. Ruled (IsBrokenRule cfg) (IsValid cfg) (next text cfg)))
+configured config image next = Wants config CONFIG_LIMIT (λ text. stated image text (next text))
 
 -- the SHA-256 of the two files' bytes (FIPS 180-4)
 abbrev pub digests_of : List ℕ → List ℕ → Digests
@@ -88,6 +95,11 @@ abbrev pub loaded : Inputs → (Loaded → Work) → Work
 loaded inputs next =
     Wants inputs.image IMAGE_LIMIT (λ file. form bad_image (contents_of file)
     (λ image. configured inputs.config image (λ text cfg. next (of_files file image text cfg))))
+
+-- the same of bytes that are there, where none is read
+abbrev pub made : List ℕ → List ℕ → (Loaded → Work) → Work
+made file text next = form bad_image (contents_of file)
+    (λ image. stated image text (λ cfg. next (of_files file image text cfg)))
 
 -- the certificate, in either version
 abbrev pub certified : List ℕ → (Certificate → Work) → Work
@@ -125,21 +137,59 @@ IsUncertifiedFor l cert = ¬ IsCertifiedFor l cert
 abbrev pub IsRefusedFor : Loaded → Certificate → Refusal → Type 0
 IsRefusedFor l cert r = IsFirstRefusal l.image l.config l.digests cert r
 
+-- the certificate's outcome where it is certified for what was loaded, and else that of its first refusal
+abbrev pub IsJudgement : (Certificate → Outcome) → (Refusal → Outcome) → Loaded → Certificate → Outcome → Type 0
+IsJudgement yes no l cert o =
+    (IsCertifiedFor l cert × (o ≡ yes cert)) ⊎ ((r : Refusal) × IsRefusedFor l cert r × (o ≡ no r))
+
 abbrev pub accepted : ℕ → ℕ → Outcome
 accepted contexts nodes = record { status = Done; text = accepted_line contexts nodes }
+
+abbrev pub counted : Certificate → Outcome
+counted cert = accepted (length cert.contexts) (length cert.nodes)
 
 abbrev pub refused : Description → Refusal → Outcome
 refused cfg r = record { status = Refused; text = refused_line cfg r }
 
--- the certificate is accepted where it is certified for what was loaded, and else its first refusal is said
-abbrev pub IsVerdict : Loaded → Certificate → Outcome → Type 0
-IsVerdict l cert o =
-    (IsCertifiedFor l cert × (o ≡ accepted (length cert.contexts) (length cert.nodes)))
-    ⊎ ((r : Refusal) × IsRefusedFor l cert r × (o ≡ refused l.config r))
+-- the refusal and why it comes
+abbrev pub explained : Contents → Description → Certificate → Refusal → Outcome
+explained image cfg cert r = record { status = Refused; text = explanation image cfg cert r }
 
--- the same certificate in version 2
-abbrev pub upgraded : Certificate → Outcome
-upgraded cert = record { status = Done; text = CertBytes2 cert }
+-- what `check` says, and what `explain` says
+abbrev pub IsVerdict : Loaded → Certificate → Outcome → Type 0
+IsVerdict l cert = IsJudgement counted (refused l.config) l cert
+
+abbrev pub IsExplained : Loaded → Certificate → Outcome → Type 0
+IsExplained l cert = IsJudgement counted (explained l.image l.config cert) l cert
+
+-- the certificate in version 2
+abbrev pub printed : Certificate → Outcome
+printed cert = record { status = Done; text = CertBytes2 cert }
+
+-- ---- the search for a certificate
+
+-- the table would pass the limits on contexts and nodes
+abbrev pub limits : Outcome
+limits = record { status = Refused; text = limits_line }
+
+-- The table that the search ends with is judged, or none was found within the limits. Which table that is isn't said
+-- yet: it is some certificate with the digests of what was loaded, and `limits` has no cause here.
+abbrev pub IsSearched : Loaded → (Certificate → Outcome → Type 0) → Outcome → Type 0
+IsSearched l judged o = ((cert : Certificate) × (cert.digests ≡ l.digests) × judged cert o) ⊎ (o ≡ limits)
+
+abbrev pub IsFound : Loaded → Outcome → Type 0
+IsFound l = IsSearched l (IsJudgement printed (refused l.config) l)
+
+-- of an input that was made: its seed and size, what was found for it, and the SHA-256 of the certificate's bytes
+abbrev pub summary : ℕ → ℕ → ℕ → ℕ → List ℕ → Outcome
+summary seed size contexts nodes digest =
+    record { status = Done; text = summary_line seed size contexts nodes digest }
+
+abbrev pub summed : ℕ → ℕ → Certificate → Outcome
+summed seed size cert = summary seed size (length cert.contexts) (length cert.nodes) (sha256 (CertBytes2 cert))
+
+abbrev pub IsSummed : ℕ → ℕ → Loaded → Outcome → Type 0
+IsSummed seed size l = IsSearched l (IsJudgement (summed seed size) (refused l.config) l)
 
 -- ---- each request
 
@@ -147,9 +197,13 @@ upgraded cert = record { status = Done; text = CertBytes2 cert }
 abbrev pub work_of : Option Request → Work
 work_of None = Only usage
 work_of (Some (Check inputs cert)) = loaded inputs (λ l. certified cert (λ c. Over (IsVerdict l c)))
+work_of (Some (Find inputs)) = loaded inputs (λ l. Over (IsFound l))
+work_of (Some (Explain inputs)) = loaded inputs (λ l. Over (IsSearched l (IsExplained l)))
+work_of (Some (ExplainCert inputs cert)) = loaded inputs (λ l. certified cert (λ c. Over (IsExplained l c)))
 work_of (Some (Replay inputs trace)) =
     loaded inputs (λ l. scripted_by l.config trace (λ lines. Over (IsRun l.image l.config lines)))
-work_of (Some (Upgrade cert)) = certified cert (λ c. Only (upgraded c))
+work_of (Some (Gen seed size)) = made (generated_image seed size) generated_config (λ l. Over (IsSummed seed size l))
+work_of (Some (Upgrade cert)) = certified cert (λ c. Only (printed c))
 
 -- the outcome of these words
 abbrev pub IsDue : Option Held → (List ℕ → Type 0) → List (List ℕ) → Outcome → Type 0
@@ -160,6 +214,16 @@ IsDue told rose words = Comes told rose (work_of (request_of words))
 pub record Tells (o : Outcome) (status : Status) (before after : SinkState) : Type 0 where
   pub all : status ≢ WriteFault → (status ≡ o.status) × Writes before after o.text
   pub part : status ≡ WriteFault → Refuses before after o.text
+
+-- how the status of `print_checked` tells what it wrote
+abbrev pub Prints : Loaded → Certificate → SinkState → SinkState → Status → Type 0
+Prints l cert before after Done = IsCertifiedFor l cert × Writes before after (CertBytes2 cert)
+Prints l cert before after Refused = (r : Refusal) × IsRefusedFor l cert r × Writes before after (refused_line l.config r)
+Prints l cert before after WriteFault =
+    (IsCertifiedFor l cert × Refuses before after (CertBytes2 cert))
+    ⊎ ((r : Refusal) × IsRefusedFor l cert r × Refuses before after (refused_line l.config r))
+Prints l cert before after NoMemory = IsCertifiedFor l cert × (after ≡ before)
+Prints l cert before after _ = ⊥
 
 -- ---- what an accepted certificate says
 
@@ -191,13 +255,38 @@ pub record HoldsInputs (held : Held) (inputs : Inputs) (cert : List ℕ) (P : Lo
   pub is_certificate : IsCertificateOf (Some held) cert certificate
   pub holds : P loaded certificate
 
--- the same of the files of a check, where the files report what they hold
+-- the same of the files of a check or of an explanation, where the files report what they hold
 abbrev pub OfCheck : Option Held → Option Request → (Loaded → Certificate → Type 0) → Type 0
 OfCheck None request P = ⊤
 OfCheck (Some held) None P = ⊤
 OfCheck (Some held) (Some (Check inputs cert)) P = HoldsInputs held inputs cert P
+OfCheck (Some held) (Some (Find inputs)) P = ⊤
+OfCheck (Some held) (Some (Explain inputs)) P = ⊤
+OfCheck (Some held) (Some (ExplainCert inputs cert)) P = HoldsInputs held inputs cert P
 OfCheck (Some held) (Some (Replay inputs trace)) P = ⊤
+OfCheck (Some held) (Some (Gen seed size)) P = ⊤
 OfCheck (Some held) (Some (Upgrade cert)) P = ⊤
+
+-- the named files hold an image and a description in their forms and limits, and what was written is version 2 of a
+-- certificate that is certified for them
+pub record HasFound (held : Held) (inputs : Inputs) (before after : SinkState) : Type 0 where
+  pub loaded : Loaded
+  pub certificate : Certificate
+  pub are_loaded : AreLoaded (Some held) inputs loaded
+  pub certified : IsCertifiedFor loaded certificate
+  pub written : Writes before after (CertBytes2 certificate)
+
+-- the same of the files of a search, where the files report what they hold
+abbrev pub OfFind : Option Held → Option Request → SinkState → SinkState → Type 0
+OfFind None request before after = ⊤
+OfFind (Some held) None before after = ⊤
+OfFind (Some held) (Some (Check inputs cert)) before after = ⊤
+OfFind (Some held) (Some (Find inputs)) before after = HasFound held inputs before after
+OfFind (Some held) (Some (Explain inputs)) before after = ⊤
+OfFind (Some held) (Some (ExplainCert inputs cert)) before after = ⊤
+OfFind (Some held) (Some (Replay inputs trace)) before after = ⊤
+OfFind (Some held) (Some (Gen seed size)) before after = ⊤
+OfFind (Some held) (Some (Upgrade cert)) before after = ⊤
 
 -- the files report what they hold, and hold each file that the request wants
 abbrev pub HoldsFiles : Option Held → Option Request → Type 0
@@ -208,8 +297,23 @@ HoldsFiles (Some held) request = AreHeld held (work_of request)
 abbrev pub IsDecided : Option Request → Type 0
 IsDecided None = ⊤
 IsDecided (Some (Check inputs cert)) = ⊤
+IsDecided (Some (Find inputs)) = ⊤
+IsDecided (Some (Explain inputs)) = ⊤
+IsDecided (Some (ExplainCert inputs cert)) = ⊤
 IsDecided (Some (Replay inputs trace)) = ⊥
+IsDecided (Some (Gen seed size)) = ⊤
 IsDecided (Some (Upgrade cert)) = ⊤
+
+-- no two outcomes come: of a search this isn't shown yet, since it isn't said which table it ends with
+abbrev pub IsTied : Option Request → Type 0
+IsTied None = ⊤
+IsTied (Some (Check inputs cert)) = ⊤
+IsTied (Some (Find inputs)) = ⊥
+IsTied (Some (Explain inputs)) = ⊥
+IsTied (Some (ExplainCert inputs cert)) = ⊤
+IsTied (Some (Replay inputs trace)) = ⊤
+IsTied (Some (Gen seed size)) = ⊥
+IsTied (Some (Upgrade cert)) = ⊤
 
 -- a text has room after the bytes that are written already
 abbrev pub HasRoomFor : Option (List ℕ) → Option ℕ → List ℕ → Type 0

@@ -5,19 +5,21 @@ use Rattle.kc_io.specs.Sink.{SinkState}
 use Rattle.kc_image.specs.Image.{Contents}
 use Rattle.kc_image.specs.ImageFile.{contents_of}
 use Rattle.kc_regions.specs.Description.{Description}
-use Rattle.kc_config.specs.Reading.{IsFirstFault}
+use Rattle.kc_regions.specs.Valid.{IsValid}
+use Rattle.kc_config.specs.Reading.{description, IsFirstFault}
 use Rattle.kc_trace.specs.declared.fault.TraceFault.TheVariants.{NoMemory as NoTraceMemory}
 use Rattle.kc_trace.specs.declared.line.Line.{Line}
 use Rattle.kc_replay.specs.Script.{Reads}
+use Rattle.kc_top.specs.declared.load.Loaded.{Loaded}
 use Rattle.kc_top.specs.declared.status.Status.{Status}
 use Rattle.kc_top.specs.declared.outcome.Outcome.{Outcome}
 use Rattle.kc_top.specs.declared.stop.Stop.{Stop}
 use Rattle.kc_top.specs.declared.stop.Stop.TheVariants.{ReadFault, TooLarge, BadImage, BadConfig, BadCert}
 use Rattle.kc_top.specs.declared.stop.Stop.TheVariants.{BadTrace, NoMemory}
-use Rattle.kc_top.specs.Words.{Inputs}
+use Rattle.kc_top.specs.Words.{Inputs, Gen}
 use Rattle.kc_top.specs.Work.{Work, Over, Comes, read_fault, too_large}
-use Rattle.kc_top.specs.Output.{TRACE_LIMIT, bad_image, bad_config, bad_cert, bad_trace, loaded, certified, scripted_by}
-use Rattle.kc_top.specs.Output.{Tells}
+use Rattle.kc_top.specs.Output.{TRACE_LIMIT, bad_image, bad_config, bad_cert, bad_trace, digests_of, loaded, made}
+use Rattle.kc_top.specs.Output.{certified, scripted_by, work_of, Tells}
 
 -- the outcome of a cause; want of memory has none
 abbrev pub outcome_of : Stop → Option Outcome
@@ -78,7 +80,31 @@ IsUnscripted told rose cfg trace stop =
 abbrev pub IsUncertified : Option Held → (List ℕ → Type 0) → List ℕ → Stop → Type 0
 IsUncertified told rose cert stop = IfSome (outcome_of stop) (Comes told rose (certified cert (λ c. Never)))
 
+-- ---- an input that was made
+
+-- the image, the description and their digests are what these bytes say
+pub record IsOfBytes (file text : List ℕ) (l : Loaded) : Type 0 where
+  pub is_image : contents_of file ≡ Ok l.image
+  pub is_description : description l.image.symbols text ≡ Ok l.config
+  pub valid : IsValid l.config
+  pub digests : l.digests ≡ digests_of file text
+
+-- why they say none: the cause's outcome comes before anything follows of them, and no file is read
+abbrev pub IsUnmade : List ℕ → List ℕ → Stop → Type 0
+IsUnmade file text stop = IfSome (outcome_of stop) (Comes None (λ _. ⊥) (made file text (λ l. Never)))
+
+-- ---- how a mode ends
+
+-- one of these outcomes was told; or memory ran out, and nothing was written
+abbrev pub Concludes : (Outcome → Type 0) → SinkState → SinkState → Result Status Stop → Type 0
+Concludes ends before after (Ok status) = (o : Outcome) × ends o × Tells o status before after
+Concludes ends before after (Err stop) = (stop ≡ NoMemory) × (after ≡ before)
+
 -- an outcome of the work was told; or the outcome of the cause comes of the work, and nothing was written
 abbrev pub Ends : Option Held → (List ℕ → Type 0) → Work → SinkState → SinkState → Result Status Stop → Type 0
 Ends told rose work before after (Ok status) = (o : Outcome) × Comes told rose work o × Tells o status before after
 Ends told rose work before after (Err stop) = IfSome (outcome_of stop) (Comes told rose work) × (after ≡ before)
+
+-- the same of an input that is made, for which no file is read
+abbrev pub Makes : ℕ → ℕ → SinkState → SinkState → Result Status Stop → Type 0
+Makes seed size = Ends None (λ _. ⊥) (work_of (Some (Gen seed size)))

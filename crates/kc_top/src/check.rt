@@ -10,7 +10,6 @@ ghost use Rattle.kc_top.specs.OutputSteps.{Ends};
 
 use crate::cert::open_cert;
 use crate::load::load;
-use crate::outcome::say;
 use crate::request::Inputs;
 use crate::status::Status;
 use crate::stop::Stop;
@@ -33,6 +32,5 @@ pub fn check<'a, F: Files, S: Sink>(
 {
     let loaded = load(alloc, files, inputs)?;
     let cert = open_cert(alloc, files, cert)?;
-    let verdict = judge(alloc, &loaded, &cert)?;
-    Ok(say(out, verdict.status, verdict.text.as_str()))
+    judge(alloc, &loaded, &cert, out)
 }

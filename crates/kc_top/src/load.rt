@@ -7,7 +7,7 @@ ghost use Rattle.kc_regions.specs.Valid.{IsValid};
 ghost use Rattle.kc_config.specs.Reading.{description};
 ghost use Rattle.kc_top.specs.RequestSteps.{inputs_of};
 ghost use Rattle.kc_top.specs.Output.{AreLoaded};
-ghost use Rattle.kc_top.specs.OutputSteps.{IsNoImage, IsNoDescription, IsUnloaded};
+ghost use Rattle.kc_top.specs.OutputSteps.{IsNoImage, IsNoDescription, IsUnloaded, IsOfBytes, IsUnmade};
 
 use crate::operand::{CONFIG_LIMIT, IMAGE_LIMIT, operand};
 use crate::request::Inputs;
@@ -79,6 +79,24 @@ pub fn load<'a, F: Files>(
         image: image_digest,
         config: Sha256::digest(&text),
     };
+    Ok(Loaded {
+        image,
+        config,
+        digests,
+    })
+}
+
+/// What the bytes of an image and a description say.
+pub fn loaded_of<'a>(alloc: Global, file: Vec<u8>, text: &[u8]) -> Result<Loaded, Stop<'a>>
+    ensures loaded { IfOk result (IsOfBytes file.items text.now) }
+    ensures unloaded { IfErr result (IsUnmade file.items text.now) }
+{
+    let digests = Digests {
+        image: Sha256::digest(&file),
+        config: Sha256::digest(text),
+    };
+    let image = image_of(alloc, file)?;
+    let config = config_of(alloc, text, &image)?;
     Ok(Loaded {
         image,
         config,

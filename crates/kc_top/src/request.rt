@@ -2,8 +2,11 @@
 
 ghost use Rattle.std.specs.Prelude.{◌≡◌, map, string_bytes, option_map};
 ghost use Rattle.std.specs.List.{list_any};
-ghost use Rattle.kc_top.specs.Words.{is_faulty, check_of, replay_of, upgrade_of, mode_of, request_of};
+ghost use Rattle.kc_top.specs.Words.{is_faulty, check_of, find_of, explain_of, replay_of, gen_of, upgrade_of};
+ghost use Rattle.kc_top.specs.Words.{mode_of, request_of};
 ghost use Rattle.kc_top.specs.RequestSteps.{asked};
+
+use crate::numbers::{GenInputs, gen_inputs};
 
 /// The files that a mode begins with, by name.
 #[derive(Clone, Copy)]
@@ -17,8 +20,16 @@ pub struct Inputs<'a> {
 pub enum Request<'a> {
     /// `check IMAGE CONFIG CERT`
     Check { inputs: Inputs<'a>, cert: &'a str },
+    /// `find IMAGE CONFIG`
+    Find { inputs: Inputs<'a> },
+    /// `explain IMAGE CONFIG`
+    Explain { inputs: Inputs<'a> },
+    /// `explain IMAGE CONFIG CERT`
+    ExplainCert { inputs: Inputs<'a>, cert: &'a str },
     /// `replay IMAGE CONFIG TRACE`
     Replay { inputs: Inputs<'a>, trace: &'a str },
+    /// `gen SEED SIZE`
+    Gen { made: GenInputs },
     /// `upgrade CERT`
     Upgrade { cert: &'a str },
 }
@@ -56,6 +67,43 @@ fn check_of(operands: &[String]) -> Option<Request<'_>>
     }
 }
 
+/// The operands of `find`.
+fn find_of(operands: &[String]) -> Option<Request<'_>>
+    ensures { option_map asked result ≡ find_of (map (λ s. string_bytes s) operands.now) }
+{
+    match operands {
+        [image, config] => Some(Request::Find {
+            inputs: Inputs {
+                image: image.as_str(),
+                config: config.as_str(),
+            },
+        }),
+        _ => None,
+    }
+}
+
+/// The operands of `explain`.
+fn explain_of(operands: &[String]) -> Option<Request<'_>>
+    ensures { option_map asked result ≡ explain_of (map (λ s. string_bytes s) operands.now) }
+{
+    match operands {
+        [image, config] => Some(Request::Explain {
+            inputs: Inputs {
+                image: image.as_str(),
+                config: config.as_str(),
+            },
+        }),
+        [image, config, cert] => Some(Request::ExplainCert {
+            inputs: Inputs {
+                image: image.as_str(),
+                config: config.as_str(),
+            },
+            cert: cert.as_str(),
+        }),
+        _ => None,
+    }
+}
+
 /// The operands of `replay`.
 fn replay_of(operands: &[String]) -> Option<Request<'_>>
     ensures { option_map asked result ≡ replay_of (map (λ s. string_bytes s) operands.now) }
@@ -68,6 +116,19 @@ fn replay_of(operands: &[String]) -> Option<Request<'_>>
             },
             trace: trace.as_str(),
         }),
+        _ => None,
+    }
+}
+
+/// The operands of `gen`.
+fn gen_of(operands: &[String]) -> Option<Request<'_>>
+    ensures { option_map asked result ≡ gen_of (map (λ s. string_bytes s) operands.now) }
+{
+    match operands {
+        [seed, size] => match gen_inputs(seed.as_str(), size.as_str()) {
+            Some(made) => Some(Request::Gen { made }),
+            None => None,
+        },
         _ => None,
     }
 }
@@ -93,8 +154,14 @@ fn mode_of(words: &[String]) -> Option<Request<'_>>
         [mode, operands @ ..] => {
             if mode.as_str() == "check" {
                 check_of(operands)
+            } else if mode.as_str() == "find" {
+                find_of(operands)
+            } else if mode.as_str() == "explain" {
+                explain_of(operands)
             } else if mode.as_str() == "replay" {
                 replay_of(operands)
+            } else if mode.as_str() == "gen" {
+                gen_of(operands)
             } else if mode.as_str() == "upgrade" {
                 upgrade_of(operands)
             } else {

@@ -1,15 +1,13 @@
-use Rattle.std.proofs.Common.{◌≡◌, ◌≢◌, sym, subst, refl}
+use Rattle.std.proofs.Common.{◌≡◌, sym, subst}
 use Rattle.std.specs.Prelude.{Option}
 use Rattle.kc_io.specs.Files.{Held, HasFailed}
 use Rattle.kc_cert.specs.declared.certificate.Certificate.{Certificate}
-use Rattle.kc_top.specs.declared.load.Loaded.{Loaded}
-use Rattle.kc_top.specs.declared.outcome.Outcome.{Outcome}
 use Rattle.kc_top.specs.RequestSteps.{inputs_of}
 use Rattle.kc_top.specs.Work.{Work, Over, Comes}
 use Rattle.kc_top.specs.Output.{loaded, certified, IsVerdict, IsCertificateOf}
 use Rattle.kc_top.specs.OutputSteps.{outcome_of, Never}
-use Rattle.kc_top.proofs.OutputLemmas.{checks, own-verdict, tells}
-use Rattle.kc_top.proofs.ReadLemmas.{IfSome-map, ends_early, kept_on}
+use Rattle.kc_top.proofs.OutputLemmas.{checks}
+use Rattle.kc_top.proofs.ReadLemmas.{IfSome-map, ends_early, concludes-ends}
 use Rattle.kc_top.proofs.LoadLemmas.{Comes-later, loaded-cut, after_loaded, certified-cut, after_certificate}
 use Rattle.kc_top.proofs.check.check.Goals as goal
 
@@ -47,7 +45,7 @@ returns-in_err-cert-clause-ends g c =
     (Comes-later first second third (certified cert never) o c.load.ensures.kept comes))) (outcome_of stop)
     c.in_err-cert.ensures.uncertified)
 
--- all three were read, and the verdict was written
+-- all three were read, and what is said of the certificate was written
 pub returns-clause-ends : goal.returns-clause-ends
 returns-clause-ends g c =
     let first = g.F.Files.state c.args.files.now in
@@ -56,12 +54,9 @@ returns-clause-ends g c =
     let name = c.args.cert.now in
     let l = c.in_ok-loaded.loaded in
     let cert = c.in_ok-cert.cert in
-    let o : Outcome = c.in_ok-verdict.verdict in
     let read : IsCertificateOf first.held name cert = subst (λ (held : Option Held). IsCertificateOf held name cert)
-    c.load.ensures.kept.held c.in_ok-cert.ensures.certificate in (
-      o,
-      after_loaded first.held rose inputs (checks name) l c.in_ok-loaded.ensures.loaded o
-          (after_certificate first.held rose name (λ c. Over (IsVerdict l c)) cert read o c.in_ok-verdict.ensures),
-      tells o c.say.result _ _ (own-verdict l cert o c.in_ok-verdict.ensures).written
-          (rw c.as_str.ensures.bytes at c.say.ensures.all) (rw c.as_str.ensures.bytes at c.say.ensures.part),
-    )
+    c.load.ensures.kept.held c.in_ok-cert.ensures.certificate in
+    concludes-ends first.held rose (loaded inputs (checks name)) (IsVerdict l cert) (g.S.Sink.state c.args.out.now)
+    (g.S.Sink.state c.judge.new.out) c.judge.result
+    (λ o is. after_loaded first.held rose inputs (checks name) l c.in_ok-loaded.ensures.loaded o
+    (after_certificate first.held rose name (λ c. Over (IsVerdict l c)) cert read o is)) c.judge.ensures.told

@@ -6,8 +6,8 @@ use Rattle.kc_top.proofs.command.one_outcome.Goals as goal
 
 -- one text is told of a run, so no end of the work has two outcomes
 pub returns-clause-at_most_one : goal.returns-clause-at_most_one
-returns-clause-at_most_one c = λ held words.
-    Comes-one held (work_of (request_of words)) (single c.one_text.ensures.once (request_of words))
+returns-clause-at_most_one c = λ held words o p tied.
+    Comes-one held (work_of (request_of words)) (single c.one_text.ensures.once (request_of words) tied) o p
 
 pub returns-clause-at_least_one : goal.returns-clause-at_least_one
 returns-clause-at_least_one c = λ held words decided.

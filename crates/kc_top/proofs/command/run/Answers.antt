@@ -8,7 +8,7 @@ use Rattle.kc_top.specs.Work.{Comes}
 use Rattle.kc_io.specs.Sink.{SinkState}
 use Rattle.kc_top.specs.OutputSteps.{outcome_of}
 use Rattle.kc_top.specs.Output.{work_of, IsDue, usage, Tells}
-use Rattle.kc_top.proofs.OutputLemmas.{said, tells, checked-done, checked-refused, both_of}
+use Rattle.kc_top.proofs.OutputLemmas.{said, tells, checked-done, checked-refused, found-done, both_of}
 use Rattle.kc_top.proofs.command.run.Goals as goal
 
 -- words that are no command
@@ -56,6 +56,19 @@ returns-in-Ok-clause-uncertified g c = λ refuses.
     (λ (r : Option Request). Comes told rose (work_of r) o) request c.in-Ok.ensures.ends.1 in
     let written : c.in-Ok.status ≢ WriteFault = λ fault. cc in
     checked-refused told rose (request_of c.args.words.now) o due (sym (c.in-Ok.ensures.ends.2.all written).0 ∙ refuses)
+
+-- what a search wrote is a certified certificate
+pub returns-in-Ok-clause-found : goal.returns-in-Ok-clause-found
+returns-in-Ok-clause-found g c = λ done.
+    let told = (g.F.Files.state c.args.files.now).held in
+    let rose = HasFailed (g.F.Files.state c.args.files.now) (g.F.Files.state c.perform.new.files) in
+    let request : Some (asked c.in-Some.request) ≡ request_of c.args.words.now = search rules in
+    let o = c.in-Ok.ensures.ends.0 in
+    let due : IsDue told rose c.args.words.now o = subst
+    (λ (r : Option Request). Comes told rose (work_of r) o) request c.in-Ok.ensures.ends.1 in
+    let written : c.in-Ok.status ≢ WriteFault = λ fault. cc in
+    let all = c.in-Ok.ensures.ends.2.all written in
+    found-done told rose (request_of c.args.words.now) o _ _ due (sym all.0 ∙ done) all.1
 
 -- the mode stopped before its own end
 pub returns-in-Err-clause-outcome : goal.returns-in-Err-clause-outcome

@@ -1,6 +1,6 @@
 use Rattle.std.proofs.Common.{rules, refl}
 use Rattle.kc_io.specs.Files.{HasFailed}
-use Rattle.kc_top.specs.Output.{upgraded}
+use Rattle.kc_top.specs.Output.{printed}
 use Rattle.kc_top.proofs.OutputLemmas.{upgrades}
 use Rattle.kc_top.proofs.LoadLemmas.{after_certificate}
 use Rattle.kc_top.proofs.upgrade.upgrade.Goals as goal
@@ -15,8 +15,8 @@ returns-in-Ok-clause-ends g c =
     let first = g.F.Files.state c.args.files.now in
     let rose = HasFailed first (g.F.Files.state c.open_cert.new.files) in
     let cert = c.in_ok-cert.cert in (
-      upgraded cert,
-      after_certificate first.held rose c.args.cert.now upgrades cert c.in_ok-cert.ensures.certificate (upgraded cert) refl,
+      printed cert,
+      after_certificate first.held rose c.args.cert.now upgrades cert c.in_ok-cert.ensures.certificate (printed cert) refl,
       record { all = λ _. (refl, search rules); part = λ no. absurd (cc) },
     )
 
@@ -26,7 +26,7 @@ returns-in-Err-Failed-clause-ends g c =
     let first = g.F.Files.state c.args.files.now in
     let rose = HasFailed first (g.F.Files.state c.open_cert.new.files) in
     let cert = c.in_ok-cert.cert in (
-      upgraded cert,
-      after_certificate first.held rose c.args.cert.now upgrades cert c.in_ok-cert.ensures.certificate (upgraded cert) refl,
+      printed cert,
+      after_certificate first.held rose c.args.cert.now upgrades cert c.in_ok-cert.ensures.certificate (printed cert) refl,
       record { all = λ no. absurd (no refl); part = λ _. search rules },
     )
