@@ -1,4 +1,4 @@
-//! The words of the modes, the order in which `check` reads its files, and their limits.
+//! The words of the modes, the order in which the files are read, and their limits.
 
 use crate::files::{Files, bytes_of};
 use crate::small::S0_SHARED;
@@ -24,8 +24,19 @@ Check / i / c / l
 upgrade
 upgrade / l / x
 upgrade / -l
-find / i / c
-gen / 7 / 200
+find / i
+find / i / c / l
+explain / i
+explain / i / c / l / x
+gen / 7
+gen / 7 / 200 / 1
+gen / 7 / 0
+gen / 7 / 6001
+gen / 18446744073709551616 / 5
+gen / 7 / -5
+gen / +7 / 5
+gen / 0x7 / 5
+gen / 000000000000000000007 / 5
 ";
 
 const USAGE: &str =
@@ -59,6 +70,17 @@ check / i / c / i | - | - | 5 | bad certificate 1 BadMagic at 5
 check / i / c / c | - | - | 5 | bad certificate 1 BadMagic at 0
 check / i / c / l | - | 0 | 8 | -
 check / i / c / c | - | 0 | 8 | -
+find / i / c | 0 | - | 7 | read fault i
+find / i / c | 2 | - | 7 | read fault c
+find / i / x | - | - | 7 | read fault x
+find / i / i | - | - | 4 | bad config 1 Syntax -
+find / i / c | - | 0 | 8 | -
+explain / i / c | 3 | - | 7 | read fault c
+explain / i / c | - | 0 | 8 | -
+explain / i / c / l | 4 | - | 7 | read fault l
+explain / i / c / c | - | - | 5 | bad certificate 1 BadMagic at 0
+explain / i / c / l | - | - | 0 | accepted contexts=13 nodes=13
+explain / i / c / l | - | 0 | 8 | -
 upgrade / x | - | - | 7 | read fault x
 upgrade / c | - | - | 5 | bad certificate 1 BadMagic at 0
 upgrade / l | - | 0 | 8 | -

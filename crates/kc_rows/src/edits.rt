@@ -70,3 +70,31 @@ pub fn edited(alloc: Global, bytes: &[u8], edits: &str) -> Result<Vec<u8>, Unrea
     }
     Ok(all)
 }
+
+/// The text after these edits, one after another: each replaces what stands there first.
+pub fn edited_text(alloc: Global, text: &[u8], edits: &str) -> Result<Vec<u8>, Unread> {
+    let mut all = Vec::from_slice(alloc, text)?;
+    if edits != "-" {
+        for edit in edits.split(" ;; ") {
+            let Some((old, new)) = edit.split_once(" => ") else {
+                return Err(Unread::Column);
+            };
+            all = replaced_text(alloc, &all, old, new)?;
+        }
+    }
+    Ok(all)
+}
+
+/// The text with `new` in the place of `old`.
+fn replaced_text(alloc: Global, text: &[u8], old: &str, new: &str) -> Result<Vec<u8>, Unread> {
+    let Ok(text) = std::str::from_utf8(text) else {
+        return Err(Unread::Column);
+    };
+    let Some((front, back)) = text.split_once(old) else {
+        return Err(Unread::Column);
+    };
+    let mut all = Vec::from_slice(alloc, front.as_bytes())?;
+    all.extend_from_slice(new.as_bytes())?;
+    all.extend_from_slice(back.as_bytes())?;
+    Ok(all)
+}

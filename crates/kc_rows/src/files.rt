@@ -39,9 +39,14 @@ impl Files {
         ]
     }
 
+    /// How a run over these files ends.
+    pub fn run(&self, alloc: Global, words: &str, cert: &[u8]) -> Result<Ending, NoMemory> {
+        ended(alloc, words, &self.with(cert), &[], &[])
+    }
+
     /// What `check` says of a certificate.
     pub fn checked(&self, alloc: Global, cert: &[u8]) -> Result<Ending, NoMemory> {
-        ended(alloc, "check / i / c / l", &self.with(cert), &[], &[])
+        self.run(alloc, "check / i / c / l", cert)
     }
 }
 

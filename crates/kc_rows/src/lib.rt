@@ -1,4 +1,4 @@
-//! Tests of `check` and `upgrade` over objects in memory, as tables of cases.
+//! Tests of `check`, `find`, `explain`, `gen` and `upgrade` over objects in memory, as tables of cases.
 #![tactic(auto)]
 
 #[cfg(test)]
@@ -8,11 +8,17 @@ mod conditions;
 #[cfg(test)]
 mod edits;
 #[cfg(test)]
+mod explained;
+#[cfg(test)]
 mod files;
 #[cfg(test)]
 mod first_sample;
 #[cfg(test)]
 mod forms;
+#[cfg(test)]
+mod printed;
+#[cfg(test)]
+mod searched;
 #[cfg(test)]
 mod second_sample;
 #[cfg(test)]

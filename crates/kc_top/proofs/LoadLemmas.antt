@@ -181,15 +181,15 @@ unmade-image file text (BadTrace fault) is = absurd is
 -- they are, and the text is no description
 pub unmade-config : (file text : List ℕ) (image : Contents) (stop : Stop) → contents_of file ≡ Ok image →
     IsNoDescription image text stop → IsUnmade file text stop
-unmade-config file text image (BadConfig fault) is no =
+unmade-config file text image (BadConfig fault) is fails =
     after_form None (λ _. ⊥) bad_image (contents_of file) (stated_by file text (λ l. Never)) image (bad_config fault) is
-    (first_fault None (λ _. ⊥) image (λ cfg. Never) text fault no)
-unmade-config file text image NoMemory is no = tt
-unmade-config file text image (ReadFault name) is no = absurd no
-unmade-config file text image (TooLarge name) is no = absurd no
-unmade-config file text image (BadImage fault) is no = absurd no
-unmade-config file text image (BadCert fault) is no = absurd no
-unmade-config file text image (BadTrace fault) is no = absurd no
+    (first_fault None (λ _. ⊥) image (λ cfg. Never) text fault fails)
+unmade-config file text image NoMemory is fails = tt
+unmade-config file text image (ReadFault name) is fails = absurd fails
+unmade-config file text image (TooLarge name) is fails = absurd fails
+unmade-config file text image (BadImage fault) is fails = absurd fails
+unmade-config file text image (BadCert fault) is fails = absurd fails
+unmade-config file text image (BadTrace fault) is fails = absurd fails
 
 -- what was made is what its bytes say
 of_its_bytes : (file text : List ℕ) (l : Loaded) → (is : IsOfBytes file text l) → of_files file l.image text l.config ≡ l

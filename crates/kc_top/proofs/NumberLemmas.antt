@@ -32,10 +32,10 @@ fits_below n is = grind (arith, nat_tests, common_steps)
 by_value : {E : Type 0} (value count : ℕ) (r : Result ℕ E) → 0 < count → OkIff r ((0 < count) × (value < 2 ^ 64)) value →
     result_ok r ≡ below (2 ^ 64) (Some value)
 by_value value count (Ok n) some is = rw (fits_below value is.0.1, is.1) refl
-by_value value count (Err e) some no = by_test (nat_lt value (2 ^ 64)) refl
+by_value value count (Err e) some fails = by_test (nat_lt value (2 ^ 64)) refl
   where
     by_test : (b : Bool) → nat_lt value (2 ^ 64) ≡ b → ◌≡◌ {A = Option ℕ} None (below (2 ^ 64) (Some value))
-    by_test true is = absurd (no (some, is_below value is))
+    by_test true is = absurd (fails (some, is_below value is))
     by_test false is = rw is refl
 
 pub seed-parsed : {E : Type 0} (word : List ℕ) (r : Result ℕ E) → are_digits is_ascii_digit 20 word ≡ true →

@@ -211,10 +211,10 @@ own-done text = record { written = λ no. cc; remembered = λ no. cc; read = λ 
 own-refused : (text : List ℕ) → IsOwnEnd (record { status = Refused; text = text })
 own-refused text = record { written = λ no. cc; remembered = λ no. cc; read = λ no. cc }
 
-own-judgement : (yes : Certificate → Outcome) (no : Refusal → Outcome) (l : Loaded) (cert : Certificate) (o : Outcome) →
-    ((c : Certificate) → IsOwnEnd (yes c)) → ((r : Refusal) → IsOwnEnd (no r)) → IsJudgement yes no l cert o → IsOwnEnd o
-own-judgement yes no l cert o accepts refuses (inl a) = subst IsOwnEnd (sym a.1) (accepts cert)
-own-judgement yes no l cert o accepts refuses (inr a) = subst IsOwnEnd (sym a.2) (refuses a.0)
+own-judgement : (accept : Certificate → Outcome) (refuse : Refusal → Outcome) (l : Loaded) (cert : Certificate) (o : Outcome) →
+    ((c : Certificate) → IsOwnEnd (accept c)) → ((r : Refusal) → IsOwnEnd (refuse r)) → IsJudgement accept refuse l cert o → IsOwnEnd o
+own-judgement accept refuse l cert o accepts refuses (inl a) = subst IsOwnEnd (sym a.1) (accepts cert)
+own-judgement accept refuse l cert o accepts refuses (inr a) = subst IsOwnEnd (sym a.2) (refuses a.0)
 
 own-searched : (judged : Certificate → Outcome → Type 0) (l : Loaded) (o : Outcome) →
     ((c : Certificate) (p : Outcome) → judged c p → IsOwnEnd p) → IsSearched l judged o → IsOwnEnd o

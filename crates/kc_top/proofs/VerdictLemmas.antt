@@ -13,39 +13,39 @@ use Rattle.kc_top.specs.declared.status.Status.TheVariants.{ReadFault, WriteFaul
 use Rattle.kc_top.specs.Output.{IsJudgement, IsCertifiedFor, IsUncertifiedFor, printed, refused, Tells, Prints}
 
 -- two judgements are the same
-pub judgement-once : (yes : Certificate → Outcome) (no : Refusal → Outcome) (l : Loaded) (cert : Certificate)
-    (o p : Outcome) → IsJudgement yes no l cert o → IsJudgement yes no l cert p → o ≡ p
-judgement-once yes no l cert o p (inl a) (inl b) = a.1 ∙ sym b.1
-judgement-once yes no l cert o p (inl a) (inr b) =
+pub judgement-once : (accept : Certificate → Outcome) (refuse : Refusal → Outcome) (l : Loaded) (cert : Certificate)
+    (o p : Outcome) → IsJudgement accept refuse l cert o → IsJudgement accept refuse l cert p → o ≡ p
+judgement-once accept refuse l cert o p (inl a) (inl b) = a.1 ∙ sym b.1
+judgement-once accept refuse l cert o p (inl a) (inr b) =
     absurd (refusal-none l.image l.config l.digests cert b.0 b.1 a.0)
-judgement-once yes no l cert o p (inr a) (inl b) =
+judgement-once accept refuse l cert o p (inr a) (inl b) =
     absurd (refusal-none l.image l.config l.digests cert a.0 a.1 b.0)
-judgement-once yes no l cert o p (inr a) (inr b) =
-    a.2 ∙ ap no (refusal-once l.image l.config l.digests cert a.0 b.0 a.1 b.1) ∙ sym b.2
+judgement-once accept refuse l cert o p (inr a) (inr b) =
+    a.2 ∙ ap refuse (refusal-once l.image l.config l.digests cert a.0 b.0 a.1 b.1) ∙ sym b.2
 
 -- there is one
-pub judgement-some : (yes : Certificate → Outcome) (no : Refusal → Outcome) (l : Loaded) (cert : Certificate) →
-    (o : Outcome) × IsJudgement yes no l cert o
-judgement-some yes no l cert = elim (refusal-or l.image l.config l.digests cert) [
-  | inl certified ↦ (yes cert, inl (certified, refl))
-  | inr first ↦ (no first.0, inr (first.0, first.1, refl))
+pub judgement-some : (accept : Certificate → Outcome) (refuse : Refusal → Outcome) (l : Loaded) (cert : Certificate) →
+    (o : Outcome) × IsJudgement accept refuse l cert o
+judgement-some accept refuse l cert = elim (refusal-or l.image l.config l.digests cert) [
+  | inl certified ↦ (accept cert, inl (certified, refl))
+  | inr first ↦ (refuse first.0, inr (first.0, first.1, refl))
 ]
 
 -- one that is Done says that the certificate is certified
-pub judgement-done : (yes : Certificate → Outcome) (no : Refusal → Outcome) (l : Loaded) (cert : Certificate)
-    (o : Outcome) → ((r : Refusal) → (no r).status ≡ Refused) → IsJudgement yes no l cert o → o.status ≡ Done →
-    IsCertifiedFor l cert × (o ≡ yes cert)
-judgement-done yes no l cert o refuses (inl a) done = a
-judgement-done yes no l cert o refuses (inr a) done =
+pub judgement-done : (accept : Certificate → Outcome) (refuse : Refusal → Outcome) (l : Loaded) (cert : Certificate)
+    (o : Outcome) → ((r : Refusal) → (refuse r).status ≡ Refused) → IsJudgement accept refuse l cert o → o.status ≡ Done →
+    IsCertifiedFor l cert × (o ≡ accept cert)
+judgement-done accept refuse l cert o refuses (inl a) done = a
+judgement-done accept refuse l cert o refuses (inr a) done =
     let is = ap (λ (p : Outcome). p.status) a.2 ∙ refuses a.0 in absurd (cc)
 
 -- and one that is Refused that it isn't
-pub judgement-refused : (yes : Certificate → Outcome) (no : Refusal → Outcome) (l : Loaded) (cert : Certificate)
-    (o : Outcome) → ((c : Certificate) → (yes c).status ≡ Done) → IsJudgement yes no l cert o → o.status ≡ Refused →
+pub judgement-refused : (accept : Certificate → Outcome) (refuse : Refusal → Outcome) (l : Loaded) (cert : Certificate)
+    (o : Outcome) → ((c : Certificate) → (accept c).status ≡ Done) → IsJudgement accept refuse l cert o → o.status ≡ Refused →
     IsUncertifiedFor l cert
-judgement-refused yes no l cert o accepts (inl a) refuses =
+judgement-refused accept refuse l cert o accepts (inl a) refuses =
     let is = ap (λ (p : Outcome). p.status) a.1 ∙ accepts cert in absurd (cc)
-judgement-refused yes no l cert o accepts (inr a) refuses = λ certified.
+judgement-refused accept refuse l cert o accepts (inr a) refuses = λ certified.
     refusal-none l.image l.config l.digests cert a.0 a.1 certified
 
 -- ---- how a certificate that was checked is printed

@@ -139,8 +139,8 @@ IsRefusedFor l cert r = IsFirstRefusal l.image l.config l.digests cert r
 
 -- the certificate's outcome where it is certified for what was loaded, and else that of its first refusal
 abbrev pub IsJudgement : (Certificate → Outcome) → (Refusal → Outcome) → Loaded → Certificate → Outcome → Type 0
-IsJudgement yes no l cert o =
-    (IsCertifiedFor l cert × (o ≡ yes cert)) ⊎ ((r : Refusal) × IsRefusedFor l cert r × (o ≡ no r))
+IsJudgement accept refuse l cert o =
+    (IsCertifiedFor l cert × (o ≡ accept cert)) ⊎ ((r : Refusal) × IsRefusedFor l cert r × (o ≡ refuse r))
 
 abbrev pub accepted : ℕ → ℕ → Outcome
 accepted contexts nodes = record { status = Done; text = accepted_line contexts nodes }
