@@ -28,8 +28,8 @@ use Rattle.kc_top.specs.declared.stop.Stop.TheVariants.{BadTrace, NoMemory}
 use Rattle.kc_top.specs.Words.{Inputs}
 use Rattle.kc_top.specs.Work.{Work, Ruled, form, Comes}
 use Rattle.kc_top.specs.Output.{IMAGE_LIMIT, CONFIG_LIMIT, CERT_LIMIT, TRACE_LIMIT, bad_image, bad_config, bad_cert}
-use Rattle.kc_top.specs.Output.{bad_trace, IsBrokenRule, of_files, stated, configured, loaded, made, certified, IsNotStarted}
-use Rattle.kc_top.specs.Output.{scripted_by, AreLoaded, IsCertificateOf}
+use Rattle.kc_top.specs.Output.{bad_trace, IsBrokenRule, of_files, stated, configured, loaded, made, certified}
+use Rattle.kc_top.specs.Output.{IsNotStarted, scripted_by, AreLoaded, IsCertificateOf}
 use Rattle.kc_top.specs.OutputSteps.{outcome_of, IsNoImage, IsNoDescription, IsNoTrace, IsScripted, IsOfBytes, IsUnmade}
 use Rattle.kc_top.specs.OutputSteps.{Never}
 use Rattle.kc_top.proofs.WorkLemmas.{Comes-more, Wants-map, form-map, Ruled-map, WantsNone, none-form}
@@ -192,12 +192,14 @@ unmade-config file text image (BadCert fault) is fails = absurd fails
 unmade-config file text image (BadTrace fault) is fails = absurd fails
 
 -- what was made is what its bytes say
-of_its_bytes : (file text : List ℕ) (l : Loaded) → (is : IsOfBytes file text l) → of_files file l.image text l.config ≡ l
+of_its_bytes : (file text : List ℕ) (l : Loaded) → (is : IsOfBytes file text l) →
+    of_files file l.image text l.config ≡ l
 of_its_bytes file text l is = λ i. record { image = l.image; config = l.config; digests = (sym is.digests) i }
 
 -- after both what follows of them is due
-pub after_made : (told : Option Held) (rose : List ℕ → Type 0) (file text : List ℕ) (next : Loaded → Work) (l : Loaded) →
-    IsOfBytes file text l → (o : Outcome) → Comes told rose (next l) o → Comes told rose (made file text next) o
+pub after_made : (told : Option Held) (rose : List ℕ → Type 0) (file text : List ℕ) (next : Loaded → Work)
+    (l : Loaded) → IsOfBytes file text l → (o : Outcome) → Comes told rose (next l) o →
+    Comes told rose (made file text next) o
 after_made told rose file text next l is o follows =
     let then = subst (λ (m : Loaded). Comes told rose (next m) o) (sym (of_its_bytes file text l is)) follows in
     after_form told rose bad_image (contents_of file) (stated_by file text next) l.image o is.is_image

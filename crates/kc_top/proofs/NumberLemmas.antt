@@ -29,8 +29,8 @@ fits_below : (n : ℕ) → n < 2 ^ 64 → nat_lt n (2 ^ 64) ≡ true
 fits_below n is = grind (arith, nat_tests, common_steps)
 
 -- a number that is read is the digits' own, and one that isn't is too large
-by_value : {E : Type 0} (value count : ℕ) (r : Result ℕ E) → 0 < count → OkIff r ((0 < count) × (value < 2 ^ 64)) value →
-    result_ok r ≡ below (2 ^ 64) (Some value)
+by_value : {E : Type 0} (value count : ℕ) (r : Result ℕ E) → 0 < count →
+    OkIff r ((0 < count) × (value < 2 ^ 64)) value → result_ok r ≡ below (2 ^ 64) (Some value)
 by_value value count (Ok n) some is = rw (fits_below value is.0.1, is.1) refl
 by_value value count (Err e) some fails = by_test (nat_lt value (2 ^ 64)) refl
   where

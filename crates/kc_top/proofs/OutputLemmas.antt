@@ -34,12 +34,12 @@ use Rattle.kc_top.specs.declared.status.Status.TheVariants.{WriteFault, NoMemory
 use Rattle.kc_top.specs.declared.outcome.Outcome.{Outcome}
 use Rattle.kc_top.specs.Words.{Inputs, Request, Check, Find, Explain, ExplainCert, Replay, Gen, Upgrade}
 use Rattle.kc_top.specs.Work.{Work, Over, Wants, Ruled, Only, form, IsRead, Comes}
-use Rattle.kc_top.specs.Output.{CERT_LIMIT, CONFIG_LIMIT, IMAGE_LIMIT, usage, bad_image, bad_config, bad_cert, bad_trace}
-use Rattle.kc_top.specs.Output.{IsBrokenRule, of_files, stated, configured, loaded, made, certified, scripted_by, run_status}
-use Rattle.kc_top.specs.Output.{IsRun, counted, refused, explained, IsJudgement, IsVerdict, IsExplained, printed, limits}
-use Rattle.kc_top.specs.Output.{IsSearched, IsFound, summed, IsSummed, work_of}
-use Rattle.kc_top.specs.Output.{AreLoaded, IsCertificateOf, IsCertifiedFor, IsUncertifiedFor, OfCheck, OfFind, IsDecided}
-use Rattle.kc_top.specs.Output.{IsTied, Tells}
+use Rattle.kc_top.specs.Output.{CERT_LIMIT, CONFIG_LIMIT, IMAGE_LIMIT, usage, bad_image, bad_config, bad_cert}
+use Rattle.kc_top.specs.Output.{bad_trace, IsBrokenRule, of_files, stated, configured, loaded, made, certified}
+use Rattle.kc_top.specs.Output.{scripted_by, run_status, IsRun, counted, refused, explained, IsJudgement, IsVerdict}
+use Rattle.kc_top.specs.Output.{IsExplained, printed, limits, IsSearched, IsFound, summed, IsSummed, work_of}
+use Rattle.kc_top.specs.Output.{AreLoaded, IsCertificateOf, IsCertifiedFor, IsUncertifiedFor, OfCheck, OfFind}
+use Rattle.kc_top.specs.Output.{IsDecided, IsTied, Tells}
 use Rattle.kc_decided.proofs.FaultLemmas.{rule_fault-once, rule_fault-none, rule_fault-or}
 use Rattle.kc_top.proofs.VerdictLemmas.{judgement-once, judgement-some, judgement-done, judgement-refused}
 use Rattle.kc_top.proofs.WorkLemmas.{IsEach, each-form, Comes-each, IsSingle, single-only, single-form, IsEnding}
@@ -211,8 +211,9 @@ own-done text = record { written = λ no. cc; remembered = λ no. cc; read = λ 
 own-refused : (text : List ℕ) → IsOwnEnd (record { status = Refused; text = text })
 own-refused text = record { written = λ no. cc; remembered = λ no. cc; read = λ no. cc }
 
-own-judgement : (accept : Certificate → Outcome) (refuse : Refusal → Outcome) (l : Loaded) (cert : Certificate) (o : Outcome) →
-    ((c : Certificate) → IsOwnEnd (accept c)) → ((r : Refusal) → IsOwnEnd (refuse r)) → IsJudgement accept refuse l cert o → IsOwnEnd o
+own-judgement : (accept : Certificate → Outcome) (refuse : Refusal → Outcome) (l : Loaded) (cert : Certificate)
+    (o : Outcome) → ((c : Certificate) → IsOwnEnd (accept c)) → ((r : Refusal) → IsOwnEnd (refuse r)) →
+    IsJudgement accept refuse l cert o → IsOwnEnd o
 own-judgement accept refuse l cert o accepts refuses (inl a) = subst IsOwnEnd (sym a.1) (accepts cert)
 own-judgement accept refuse l cert o accepts refuses (inr a) = subst IsOwnEnd (sym a.2) (refuses a.0)
 
@@ -226,8 +227,8 @@ own-verdict l cert o = own-judgement counted (refused l.config) l cert o (λ c. 
     (λ r. own-refused (refused l.config r).text)
 
 own-explained : (l : Loaded) (cert : Certificate) (o : Outcome) → IsExplained l cert o → IsOwnEnd o
-own-explained l cert o = own-judgement counted (explained l.image l.config cert) l cert o (λ c. own-done (counted c).text)
-    (λ r. own-refused (explained l.image l.config cert r).text)
+own-explained l cert o = own-judgement counted (explained l.image l.config cert) l cert o
+    (λ c. own-done (counted c).text) (λ r. own-refused (explained l.image l.config cert r).text)
 
 own-found : (l : Loaded) (o : Outcome) → IsFound l o → IsOwnEnd o
 own-found l o = own-searched (IsJudgement printed (refused l.config) l) l o

@@ -1,5 +1,5 @@
--- A certificate has one judgement, since it is certified or has a first refusal, and not both; the status tells which it
--- is. A search has an outcome in any case, and how a table that it found is printed is one.
+-- A certificate has one judgement, since it is certified or has a first refusal, and not both; the status tells which
+-- it is. A search has an outcome in any case, and how a table that it found is printed is one.
 use Rattle.std.proofs.Common.{◌≡◌, ◌≢◌, refl, ap, sym, ◌∙◌, inl, inr}
 use Rattle.kc_io.specs.Sink.{SinkState}
 use Rattle.kc_cert.specs.declared.certificate.Certificate.{Certificate}
@@ -8,8 +8,8 @@ use Rattle.kc_decided.proofs.FormLemmas.{refusal-once, refusal-none, refusal-or}
 use Rattle.kc_top.specs.declared.load.Loaded.{Loaded}
 use Rattle.kc_top.specs.declared.outcome.Outcome.{Outcome}
 use Rattle.kc_top.specs.declared.status.Status.{Status}
-use Rattle.kc_top.specs.declared.status.Status.TheVariants.{Done, Refused, Usage, BadImage, BadConfig, BadCert, BadTrace}
-use Rattle.kc_top.specs.declared.status.Status.TheVariants.{ReadFault, WriteFault, NoMemory, TooLarge}
+use Rattle.kc_top.specs.declared.status.Status.TheVariants.{Done, Refused, Usage, BadImage, BadConfig, BadCert}
+use Rattle.kc_top.specs.declared.status.Status.TheVariants.{BadTrace, ReadFault, WriteFault, NoMemory, TooLarge}
 use Rattle.kc_top.specs.Output.{IsJudgement, IsCertifiedFor, IsUncertifiedFor, printed, refused, Tells, Prints}
 
 -- two judgements are the same
@@ -33,16 +33,16 @@ judgement-some accept refuse l cert = elim (refusal-or l.image l.config l.digest
 
 -- one that is Done says that the certificate is certified
 pub judgement-done : (accept : Certificate → Outcome) (refuse : Refusal → Outcome) (l : Loaded) (cert : Certificate)
-    (o : Outcome) → ((r : Refusal) → (refuse r).status ≡ Refused) → IsJudgement accept refuse l cert o → o.status ≡ Done →
-    IsCertifiedFor l cert × (o ≡ accept cert)
+    (o : Outcome) → ((r : Refusal) → (refuse r).status ≡ Refused) → IsJudgement accept refuse l cert o →
+    o.status ≡ Done → IsCertifiedFor l cert × (o ≡ accept cert)
 judgement-done accept refuse l cert o refuses (inl a) done = a
 judgement-done accept refuse l cert o refuses (inr a) done =
     let is = ap (λ (p : Outcome). p.status) a.2 ∙ refuses a.0 in absurd (cc)
 
 -- and one that is Refused that it isn't
 pub judgement-refused : (accept : Certificate → Outcome) (refuse : Refusal → Outcome) (l : Loaded) (cert : Certificate)
-    (o : Outcome) → ((c : Certificate) → (accept c).status ≡ Done) → IsJudgement accept refuse l cert o → o.status ≡ Refused →
-    IsUncertifiedFor l cert
+    (o : Outcome) → ((c : Certificate) → (accept c).status ≡ Done) → IsJudgement accept refuse l cert o →
+    o.status ≡ Refused → IsUncertifiedFor l cert
 judgement-refused accept refuse l cert o accepts (inl a) refuses =
     let is = ap (λ (p : Outcome). p.status) a.1 ∙ accepts cert in absurd (cc)
 judgement-refused accept refuse l cert o accepts (inr a) refuses = λ certified.

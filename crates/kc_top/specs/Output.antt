@@ -218,7 +218,8 @@ pub record Tells (o : Outcome) (status : Status) (before after : SinkState) : Ty
 -- how the status of `print_checked` tells what it wrote
 abbrev pub Prints : Loaded → Certificate → SinkState → SinkState → Status → Type 0
 Prints l cert before after Done = IsCertifiedFor l cert × Writes before after (CertBytes2 cert)
-Prints l cert before after Refused = (r : Refusal) × IsRefusedFor l cert r × Writes before after (refused_line l.config r)
+Prints l cert before after Refused =
+    (r : Refusal) × IsRefusedFor l cert r × Writes before after (refused_line l.config r)
 Prints l cert before after WriteFault =
     (IsCertifiedFor l cert × Refuses before after (CertBytes2 cert))
     ⊎ ((r : Refusal) × IsRefusedFor l cert r × Refuses before after (refused_line l.config r))

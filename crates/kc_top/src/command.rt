@@ -69,7 +69,8 @@ fn report<S: Sink>(alloc: Global, stop: Stop<'_>, out: &mut S) -> Status
 /// `explain IMAGE CONFIG` does the same, and writes that it is accepted, or why it is refused;
 /// `explain IMAGE CONFIG CERT` writes this of the certificate that it reads.
 /// `replay IMAGE CONFIG TRACE` reads its three in order, runs the trace, and writes what is told of it.
-/// `gen SEED SIZE` makes an image and a description from the two numbers, searches for a certificate, and writes one line.
+/// `gen SEED SIZE` makes an image and a description from the two numbers, searches for a certificate, and writes one
+/// line.
 /// `upgrade CERT` reads a certificate, and writes it in version 2.
 /// The answer is the outcome's status, and then the sink refused nothing; `WriteFault` where the sink
 /// refused a part of the text; `NoMemory` where memory ran out, and then nothing was written.

@@ -24,7 +24,8 @@ fn explain_found<'a, S: Sink>(
     loaded: &Loaded,
     out: &mut S,
 ) -> Result<Status, Stop<'a>>
-    ensures told { Concludes (IsSearched loaded.now (IsExplained loaded.now)) (S.state out.old) (S.state out.new) result }
+    ensures told { Concludes (IsSearched loaded.now (IsExplained loaded.now))
+        (S.state out.old) (S.state out.new) result }
     ensures kept { SinkKept (S.state out.old) (S.state out.new) }
 {
     match search(alloc, loaded)? {

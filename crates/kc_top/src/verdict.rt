@@ -26,7 +26,8 @@ fn accepted_text(alloc: Global, contexts: u32, nodes: u32) -> Result<String, NoM
 
 /// Writes that the conditions hold of so many contexts and nodes.
 fn accept<'a, S: Sink>(alloc: Global, counts: Counts, out: &mut S) -> Result<Status, Stop<'a>>
-    ensures told { Concludes (λ o. o ≡ accepted counts.contexts counts.nodes) (S.state out.old) (S.state out.new) result }
+    ensures told { Concludes (λ o. o ≡ accepted counts.contexts counts.nodes)
+        (S.state out.old) (S.state out.new) result }
     ensures kept { SinkKept (S.state out.old) (S.state out.new) }
 {
     let text = accepted_text(alloc, counts.contexts, counts.nodes)?;

@@ -28,8 +28,9 @@ pub returns-in-Gen-clause-ends : goal.returns-in-Gen-clause-ends
 returns-in-Gen-clause-ends g c =
     let files = g.F.Files.state c.args.files.now in
     let made = c.in-Gen.made in
-    rw c.in-Gen.is (Ends-anywhere None files.held (λ _. ⊥) (HasFailed files files) (work_of (Some (Gen made.seed made.size)))
-    (g.S.Sink.state c.args.out.now) (g.S.Sink.state c.generate.new.out) c.generate.result
+    rw c.in-Gen.is (Ends-anywhere None files.held (λ _. ⊥) (HasFailed files files)
+    (work_of (Some (Gen made.seed made.size))) (g.S.Sink.state c.args.out.now) (g.S.Sink.state c.generate.new.out)
+    c.generate.result
     (none-made (generated_image made.seed made.size) generated_config (sums_up made.seed made.size) (λ l. tt))
     c.generate.ensures.ends)
 

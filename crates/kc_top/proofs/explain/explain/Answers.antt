@@ -28,6 +28,6 @@ returns-clause-ends g c =
     let rose = HasFailed first (g.F.Files.state c.load.new.files) in
     let inputs = inputs_of c.args.inputs in
     let l = c.in_ok-loaded.loaded in
-    concludes-ends first.held rose (loaded inputs explains) (IsSearched l (IsExplained l)) (g.S.Sink.state c.args.out.now)
-    (g.S.Sink.state c.explain_found.new.out) c.explain_found.result
+    concludes-ends first.held rose (loaded inputs explains) (IsSearched l (IsExplained l))
+    (g.S.Sink.state c.args.out.now) (g.S.Sink.state c.explain_found.new.out) c.explain_found.result
     (after_loaded first.held rose inputs explains l c.in_ok-loaded.ensures.loaded) c.explain_found.ensures.told

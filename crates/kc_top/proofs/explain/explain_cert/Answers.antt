@@ -56,7 +56,7 @@ returns-clause-ends g c =
     let cert = c.in_ok-cert.cert in
     let read : IsCertificateOf first.held name cert = subst (λ (held : Option Held). IsCertificateOf held name cert)
     c.load.ensures.kept.held c.in_ok-cert.ensures.certificate in
-    concludes-ends first.held rose (loaded inputs (explains_cert name)) (IsExplained l cert) (g.S.Sink.state c.args.out.now)
-    (g.S.Sink.state c.explain.new.out) c.explain.result
+    concludes-ends first.held rose (loaded inputs (explains_cert name)) (IsExplained l cert)
+    (g.S.Sink.state c.args.out.now) (g.S.Sink.state c.explain.new.out) c.explain.result
     (λ o is. after_loaded first.held rose inputs (explains_cert name) l c.in_ok-loaded.ensures.loaded o
     (after_certificate first.held rose name (λ c. Over (IsExplained l c)) cert read o is)) c.explain.ensures.told

@@ -14,8 +14,8 @@ returns-in_err-clause-ends g c =
     let file = generated_image c.args.made.seed c.args.made.size in
     let next = sums_up c.args.made.seed c.args.made.size in
     let stop = c.in_err-loaded.field-0.0 in
-    ends_early None (λ _. ⊥) (made file generated_config next) (g.S.Sink.state c.args.out.now) stop c.from_residual.result
-    c.from_residual.ensures.1
+    ends_early None (λ _. ⊥) (made file generated_config next) (g.S.Sink.state c.args.out.now) stop
+    c.from_residual.result c.from_residual.ensures.1
     (IfSome-map (Comes None (λ _. ⊥) (made file generated_config (λ l. Never)))
     (Comes None (λ _. ⊥) (made file generated_config next)) (made-cut None (λ _. ⊥) file generated_config next)
     (outcome_of stop) c.in_err-loaded.ensures.unmade)
