@@ -488,6 +488,25 @@ pub tells : (o : Outcome) (status : Status) (before after : SinkState) → o.sta
     (status ≡ WriteFault → o.status ≢ WriteFault → Refuses before after o.text) → Tells o status before after
 tells o status before after is all part = record { all = all; part = λ fault. part fault is }
 
+-- the same of a text that is the outcome's
+pub tells_text : (o : Outcome) (status : Status) (before after : SinkState) (text : List ℕ) → o.status ≢ WriteFault →
+    text ≡ o.text → (status ≢ WriteFault → (status ≡ o.status) × Writes before after text) →
+    (status ≡ WriteFault → o.status ≢ WriteFault → Refuses before after text) → Tells o status before after
+tells_text o status before after text is same all part = record {
+  all = λ written. let told = all written in
+      (told.0, subst (λ (t : List ℕ). Writes before after t) same told.1);
+  part = λ fault. subst (λ (t : List ℕ). Refuses before after t) same (part fault is);
+}
+
+-- all of an outcome's text was written, or the sink refused a part of it
+pub tells_all : (o : Outcome) (before after : SinkState) → o.status ≢ WriteFault → Writes before after o.text →
+    Tells o o.status before after
+tells_all o before after is writes = record { all = λ _. (refl, writes); part = λ fault. absurd (is fault) }
+
+pub tells_part : (o : Outcome) (before after : SinkState) → Refuses before after o.text →
+    Tells o WriteFault before after
+tells_part o before after refuses = record { all = λ written. absurd (written refl); part = λ _. refuses }
+
 -- a count that rose later rose in the whole
 pub Rose-before : (first before now : ℕ) → first ≤ before → Rose before now → Rose first now
 Rose-before first before now earlier rose = omega arith

@@ -9,8 +9,8 @@ use Rattle.kc_top.proofs.LoadLemmas.{made-cut, after_made}
 use Rattle.kc_top.proofs.generated.generate.Goals as goal
 
 -- the bytes say no image or no description
-pub returns-in_err-clause-ends : goal.returns-in_err-clause-ends
-returns-in_err-clause-ends g c =
+pub returns-in_err-loaded-clause-ends : goal.returns-in_err-loaded-clause-ends
+returns-in_err-loaded-clause-ends g c =
     let file = generated_image c.args.made.seed c.args.made.size in
     let next = sums_up c.args.made.seed c.args.made.size in
     let stop = c.in_err-loaded.field-0.0 in
