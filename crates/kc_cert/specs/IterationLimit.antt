@@ -121,7 +121,7 @@ abbrev pub node_demands : Contents → Description → Table → Placed → List
 node_demands image d t p =
     if passes d p
     then successor_demands p (successors d p) ++ flat_map (event_demands image d t p) (events_of d p)
-        ++ ForClobber p.key (written_by d p) ∷ user_demands_at p
+    ++ ForClobber p.key (written_by d p) ∷ user_demands_at p
     else []
 
 -- C16: the stack of the context's frame
