@@ -4,6 +4,7 @@ use crate::due::{does_as_due, ends_as_due, is_state};
 use crate::reached::{Reached, reach};
 use crate::words::rest_of;
 use kc_cases::{hex_bytes, number};
+use kc_exec::State;
 use std::alloc::Global;
 
 // A sample: its image, and the text of its description.
@@ -85,12 +86,18 @@ fn unescaped(alloc: Global, text: &str) -> Option<String> {
     Some(whole)
 }
 
-// The text after the edit of the lines `OLD` and `new NEW`: `new` in the place of `old`.
-fn replaced(alloc: Global, text: &str, edit: &str) -> Option<String> {
-    let (old, rest) = edit.split_once("\nnew ")?;
+// The text with `new` in the place of `old`.
+fn replaced(alloc: Global, text: &str, old: &str, new: &str) -> Option<String> {
     let (front, back) = text.split_once(old)?;
-    let new = unescaped(alloc, rest.lines().next()?)?;
     format!(in alloc; "{front}{new}{back}").ok()
+}
+
+// The text after the edit of the lines `OLD` and `new NEW`.
+fn edited_by(alloc: Global, text: &str, edit: &str) -> Option<String> {
+    let (old, rest) = edit.split_once("\nnew ")?;
+    let old = unescaped(alloc, old)?;
+    let new = unescaped(alloc, rest.lines().next()?)?;
+    replaced(alloc, text, old.as_str(), new.as_str())
 }
 
 // The sample's description, where each `old` is replaced by the `new` after it.
@@ -99,7 +106,7 @@ fn edited(alloc: Global, text: &str, head: &str) -> Option<String> {
     let mut edits = head.split("\nold ");
     let _before = edits.next();
     for edit in edits {
-        text = replaced(alloc, text.as_str(), edit)?;
+        text = edited_by(alloc, text.as_str(), edit)?;
     }
     Some(text)
 }
@@ -166,8 +173,13 @@ impl Block {
     /// Nothing where they aren't read.
     pub fn agrees(&self, alloc: Global, turn: &str) -> Option<bool> {
         let before = self.reach(alloc, turn)?;
+        self.agrees_after(alloc, before.machine.state(), turn)
+    }
+
+    // The same, where this is the state before the turn.
+    fn agrees_after(&self, alloc: Global, before: &State, turn: &str) -> Option<bool> {
         let mut after = self.reach(alloc, turn)?;
-        does_as_due(alloc, &before, &mut after, turn)
+        does_as_due(alloc, before, &mut after, turn)
     }
 
     /// Whether a turn from that state ends as its lines tell: done, not allowed, stopped or with a break.

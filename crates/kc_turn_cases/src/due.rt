@@ -137,10 +137,10 @@ pub(crate) fn ends_as_due(there: &mut Reached, turn: &str) -> Option<bool> {
     Some(end_as_due(there, turn)?.is_some())
 }
 
-/// Whether the turn of `after` does what its lines tell; `before` is in the same state.
+/// Whether the turn of `after` does what its lines tell; `before` is the state before it.
 pub(crate) fn does_as_due(
     alloc: Global,
-    before: &Reached,
+    before: &State,
     after: &mut Reached,
     turn: &str,
 ) -> Option<bool> {
@@ -152,8 +152,8 @@ pub(crate) fn does_as_due(
         return Some(false);
     }
     match end {
-        StepEnd::Done => is_left(alloc, before.machine.state(), &after.machine, turn),
-        StepEnd::NotAllowed => Some(is_same(before.machine.state(), after.machine.state())),
+        StepEnd::Done => is_left(alloc, before, &after.machine, turn),
+        StepEnd::NotAllowed => Some(is_same(before, after.machine.state())),
         StepEnd::Stopped | StepEnd::Broke(_) => Some(after.machine.state().stopped),
     }
 }

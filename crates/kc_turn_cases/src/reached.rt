@@ -2,7 +2,7 @@
 
 use kc_config::read_config;
 use kc_events::Turn;
-use kc_image::read_image;
+use kc_image::{Image, read_image};
 use kc_machine::{Machine, StepEnd};
 use kc_regions::Config;
 use kc_replay::{Script, first_set, read_trace, turn_at};
@@ -81,19 +81,33 @@ fn take_lines(alloc: Global, machine: &mut Machine, lines: &[Line], last: usize)
     None
 }
 
-// The machine at the last turn of the script.
-fn run(alloc: Global, mut machine: Machine, lines: &[Line]) -> Option<Reached> {
+// The turn at the last line that is one, after those before it.
+fn run(alloc: Global, machine: &mut Machine, lines: &[Line]) -> Option<Turn> {
     let last = last_turn(lines)?;
-    let turn = take_lines(alloc, &mut machine, lines, last)?;
+    take_lines(alloc, machine, lines, last)
+}
+
+// The machine at the start of the script.
+fn start(alloc: Global, image: Image, config: Config, lines: &[Line]) -> Option<Machine> {
+    let first = first_set(alloc, &config, lines).ok()?;
+    Machine::start(alloc, config, image, &first).ok()
+}
+
+// The machine at the last turn of the lines.
+fn reach_by(alloc: Global, image: Image, config: Config, lines: &[Line]) -> Option<Reached> {
+    let mut machine = start(alloc, image, config, lines)?;
+    let turn = run(alloc, &mut machine, lines)?;
     Some(Reached { machine, turn })
+}
+
+fn image_of(alloc: Global, bytes: &[u8]) -> Option<Image> {
+    read_image(alloc, Vec::from_slice(alloc, bytes).ok()?).ok()
 }
 
 /// The machine at the last turn of a trace on this image under this description.
 pub(crate) fn reach(alloc: Global, image: &[u8], config: &str, trace: &str) -> Option<Reached> {
-    let image = read_image(alloc, Vec::from_slice(alloc, image).ok()?).ok()?;
+    let image = image_of(alloc, image)?;
     let config = read_config(alloc, config.as_bytes(), &image).ok()?;
     let script = script_of(alloc, &config, trace.as_bytes())?;
-    let first = first_set(alloc, &config, script.lines()).ok()?;
-    let machine = Machine::start(alloc, config, image, &first).ok()?;
-    run(alloc, machine, script.lines())
+    reach_by(alloc, image, config, script.lines())
 }
