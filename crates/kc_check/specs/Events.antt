@@ -1,9 +1,10 @@
 -- C14 to C16 at a node, whose events are asked in one pass. This project's own.
-use Rattle.std.specs.Prelude.{ℕ, Bool, cond, Option, Some, None, Result, Ok, Err}
+use Rattle.std.specs.Prelude.{◌≡◌, ℕ, Bool, true, cond, Option, Some, None, Result, Ok, Err}
 use Rattle.kc_image.specs.Image.{Contents}
 use Rattle.kc_regions.specs.Description.{Description}
 use Rattle.kc_rules.specs.Rules.{◌>>=◌}
-use Rattle.kc_cert.specs.Conditions.{is_event_counted, is_event_covered, is_return_covered}
+use Rattle.kc_state.specs.declared.summary.Summary.{Summary}
+use Rattle.kc_cert.specs.Conditions.{is_event_counted, is_event_covered, is_kept, is_return_covered}
 use Rattle.kc_cert.specs.FirstRefusal.{at_event, demand, each}
 use Rattle.kc_cert.specs.Placed.{Placed, events_of}
 use Rattle.kc_cert.specs.declared.certificate.Certificate.{Certificate}
@@ -33,3 +34,7 @@ abbrev pub failed_refusal : Node → Option ℕ → Option ℕ → Result (Unit 
 failed_refusal n kept counted = do
   ok ← failed_at n 15 kept
   failed_at n 16 counted
+
+-- after a return with this summary nothing new is known
+abbrev pub IsKept : Description → Placed → Summary → Type 0
+IsKept d p summary = is_kept d p (Some summary) ≡ true

@@ -11,8 +11,8 @@ returns-in-Some-clause-kept c =
     let p = c.args.p.now in
     let there : Some c.in-Some.summary.now ≡ event_summary t.image.now t.cfg.now t.cert.now p c.args.vector =
     c.in-Some.ensures.value ∙ ap (summary_of t.image.now t.cert.now) (sym c.requires.entered) in
-    c.kept_after.ensures
-    ∙ ap (λ (o : Option Summary). first_failed c.args.failed.kept (is_kept t.cfg.now p o) c.args.vector) there
+    c.ask_kept-next.ensures.kept
+    ∙ ap (λ (o : Option Summary). first_failed c.args.asked.kept (is_kept t.cfg.now p o) c.args.vector) there
 
 pub returns-in-Some-clause-counted : goal.returns-in-Some-clause-counted
 returns-in-Some-clause-counted c =
@@ -20,6 +20,6 @@ returns-in-Some-clause-counted c =
     let p = c.args.p.now in
     let there : Some c.in-Some.summary.now ≡ event_summary t.image.now t.cfg.now t.cert.now p c.args.vector =
     c.in-Some.ensures.value ∙ ap (summary_of t.image.now t.cert.now) (sym c.requires.entered) in
-    c.counted_after.ensures
-    ∙ ap (λ (o : Option Summary). first_failed c.args.failed.counted (holds_clobber c.args.clobber.now o) c.args.vector)
+    c.counted_after-counted.ensures
+    ∙ ap (λ (o : Option Summary). first_failed c.args.asked.counted (holds_clobber c.args.clobber.now o) c.args.vector)
     there

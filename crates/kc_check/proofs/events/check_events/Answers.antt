@@ -2,13 +2,15 @@
 -- refused by C14 or kept where C15 or C16 fails.
 use Rattle.std.proofs.Common.{◌≡◌, ℕ, ◌+◌, ◌<◌, ◌≤◌, Bool, true, false, List, None, Err, length, get_or, drop, sym, ap, ◌∙◌, subst, arith}
 use Rattle.std.proofs.lemmas.Result.{err_from_is_err_and}
+use Rattle.std.specs.Prelude.{IfSome}
 use Rattle.kc_absevent.specs.Sets.{IsSetOf, has_vector}
 use Rattle.kc_state.specs.AbsEvents.{comes}
 use Rattle.kc_cert.specs.Placed.{Placed}
-use Rattle.kc_check.specs.declared.events.Failed.{Failed}
+use Rattle.kc_check.specs.declared.events.Asked.{Asked}
+use Rattle.kc_check.specs.Events.{IsKept}
 use Rattle.kc_check.proofs.EventLemmas.{AtNode, comes_by_gate, events_left, left-all, left-end, left-failed, left-next, left-skipped, may_come}
 use Rattle.kc_check.proofs.events.check_events.Goals as goal
-use Rattle.kc_check.proofs.events.check_events.Goals.{then-has+in_ok-failed, else-has}
+use Rattle.kc_check.proofs.events.check_events.Goals.{then-has+in_ok-asked, else-has}
 
 -- what the set of events says of a vector
 came : (x : AtNode) (q : Placed) (words : List ℕ) (v : ℕ) (b : Bool) → q ≡ x.p
@@ -27,7 +29,10 @@ loop-vector-init c =
       n = c.args.node.now;
       p = c.args.p.now;
     } in
-    ap (events_left x None None) (c.as_slice-vector-items.ensures.items ∙ t.vectors_in_order) ∙ left-all x
+    record {
+      left = ap (events_left x None None) (c.as_slice-vector-items.ensures.items ∙ t.vectors_in_order) ∙ left-all x;
+      last = tt;
+    }
 
 pub ask_event-requires-clause-gate : goal.ask_event-requires-clause-gate
 ask_event-requires-clause-gate c =
@@ -41,8 +46,8 @@ ask_event-requires-clause-gate c =
     sym (c.events_at-events.ensures.value v below) ∙ sym c.has.ensures.value ∙ c.if-has.true in
     comes_by_gate _ _ comes_here
 
-pub returns-in_err-failed : goal.returns-in_err-failed
-returns-in_err-failed c =
+pub returns-in_err-asked : goal.returns-in_err-asked
+returns-in_err-asked c =
     let t = c.args.table.now in
     let x : AtNode = record {
       image = t.image.now;
@@ -62,12 +67,12 @@ returns-in_err-failed c =
     (record { key = p.key.now; site = p.site; state = p.state.now; insn = p.insn; len = p.len })
     c.events_at-events.result.vectors v true c.p.view_is c.events_at-events.ensures.value below
     (sym c.has.ensures.value ∙ c.if-has.true) in
-    let f = c.loop-vector.failed in
+    let f = c.loop-vector.asked in
     let exit = err_from_is_err_and c.from_residual.result c.from_residual.ensures.1 in
     rw (exit.1, exit.2)
-    (ap Err c.in_err-failed.ensures.refused
-    ∙ sym (left-failed x f.kept f.counted vs i fits comes_here c.in_err-failed.ensures.uncovered)
-    ∙ c.loop-vector.invariant)
+    (ap Err c.in_err-asked.ensures.refused
+    ∙ sym (left-failed x f.kept f.counted vs i fits comes_here c.in_err-asked.ensures.uncovered)
+    ∙ c.loop-vector.invariant.left)
 
 pub loop-vector-preserved : goal.loop-vector-preserved
 loop-vector-preserved c =
@@ -83,26 +88,34 @@ loop-vector-preserved c =
     let p = c.p.inside in
     let q : Placed = record { key = p.key.now; site = p.site; state = p.state.now; insn = p.insn; len = p.len } in
     let i = c.loop-vector.vector-index in
-    let f = c.loop-vector.failed in
+    let f = c.loop-vector.asked in
     let vs = c.as_slice-vector-items.result.now in
     let v = get_or vs i 0 in
     let below : v < 256 = omega (arith, c.type_inv.vector-items i) in
     let fits : i < length vs = omega arith in
     elim c.if-has.branch [
-      | then-has+in_ok-failed w ↦
+      | then-has+in_ok-asked w ↦
           let comes_here = came x q c.events_at-events.result.vectors v true c.p.view_is
           c.events_at-events.ensures.value below (sym c.has.ensures.value ∙ w.if-has.true) in
-          let kept = ap (λ (s : Failed). s.kept) w.failed-is ∙ w.in_ok-failed.ensures.kept in
-          let counted = ap (λ (s : Failed). s.counted) w.failed-is ∙ w.in_ok-failed.ensures.counted in
-          (λ j. events_left x (kept j) (counted j) (drop (i + 1) vs))
-          ∙ sym (left-next x f.kept f.counted vs i fits comes_here w.in_ok-failed.ensures.covered)
-          ∙ c.loop-vector.invariant
+          let kept = ap (λ (s : Asked). s.kept) w.asked-is ∙ w.in_ok-asked.ensures.kept in
+          let counted = ap (λ (s : Asked). s.counted) w.asked-is ∙ w.in_ok-asked.ensures.counted in
+          record {
+            left = (λ j. events_left x (kept j) (counted j) (drop (i + 1) vs))
+                ∙ sym (left-next x f.kept f.counted vs i fits comes_here w.in_ok-asked.ensures.covered)
+                ∙ c.loop-vector.invariant.left;
+            last = subst (λ (s : Asked). IfSome s.last (IsKept t.cfg.now c.args.p.now)) (sym w.asked-is)
+                w.in_ok-asked.ensures.last;
+          }
       | else-has w ↦
           let comes_here = came x q c.events_at-events.result.vectors v false c.p.view_is
           c.events_at-events.ensures.value below (sym c.has.ensures.value ∙ w.if-has.false) in
-          (λ j. events_left x (w.failed-is j).kept (w.failed-is j).counted (drop (i + 1) vs))
-          ∙ sym (left-skipped x f.kept f.counted vs i fits comes_here)
-          ∙ c.loop-vector.invariant
+          record {
+            left = (λ j. events_left x (w.asked-is j).kept (w.asked-is j).counted (drop (i + 1) vs))
+                ∙ sym (left-skipped x f.kept f.counted vs i fits comes_here)
+                ∙ c.loop-vector.invariant.left;
+            last = subst (λ (s : Asked). IfSome s.last (IsKept t.cfg.now c.args.p.now)) (sym w.asked-is)
+                c.loop-vector.invariant.last;
+          }
     ]
 
 pub returns : goal.returns
@@ -117,7 +130,7 @@ returns c =
       p = c.args.p.now;
     } in
     let i = c.loop-vector.vector-index in
-    let f = c.loop-vector.failed in
+    let f = c.loop-vector.asked in
     let vs = c.as_slice-vector-items.result.now in
     let done : length vs ≤ i = omega arith in
-    c.answer.ensures ∙ sym (left-end x f.kept f.counted vs i done) ∙ c.loop-vector.invariant
+    c.answer.ensures ∙ sym (left-end x f.kept f.counted vs i done) ∙ c.loop-vector.invariant.left
