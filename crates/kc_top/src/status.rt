@@ -6,9 +6,9 @@ ghost use Rattle.kc_top.specs.Status.{code_of};
 /// How a run of the program ends.
 #[derive(Clone, Copy, PartialEq, Eq, Debug)]
 pub enum Status {
-    /// The command did its work; of `check`: the certificate is accepted.
+    /// The command did its work; of all but `replay` and `upgrade`: the certificate is accepted.
     Done,
-    /// The conditions fail.
+    /// The conditions fail, or no table was found within the limits.
     Refused,
     /// The words are no command.
     Usage,
