@@ -1,4 +1,4 @@
-use Rattle.std.proofs.Common.{◌≡◌, sym, subst}
+use Rattle.std.proofs.Common.{subst}
 use Rattle.std.specs.Prelude.{Option}
 use Rattle.kc_io.specs.Files.{Held, HasFailed}
 use Rattle.kc_cert.specs.declared.certificate.Certificate.{Certificate}
