@@ -16,8 +16,6 @@ mod first_sample;
 #[cfg(test)]
 mod forms;
 #[cfg(test)]
-mod printed;
-#[cfg(test)]
 mod searched;
 #[cfg(test)]
 mod second_sample;
