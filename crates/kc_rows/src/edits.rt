@@ -6,7 +6,7 @@ use kc_tables::{Unread, number};
 use std::alloc::Global;
 
 /// The bytes, where `gone` from the one at `at` on are replaced by `new`.
-fn replaced(
+pub fn replaced(
     alloc: Global,
     bytes: &[u8],
     at: usize,

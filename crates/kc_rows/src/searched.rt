@@ -1,7 +1,7 @@
 //! `find` and `explain` with two files, on the samples and on variants of them, as an independent model of the certifier
 //! answers.
 
-use crate::edits::{edited, edited_text};
+use crate::edits::{edited, edited_text, replaced};
 use crate::files::Files;
 use kc_gen::{Sample, sample};
 use kc_runs::{Ending, is_told};
@@ -196,6 +196,18 @@ fn a_refusal_of_what_was_found_is_explained(rt: HostRuntime) -> Result<(), Fail>
             assert!(rt; is_told(alloc, &mut case, &end)?, "{line}");
         }
     }
+    Ok(())
+}
+
+#[test]
+fn a_table_past_the_limits_is_refused(rt: HostRuntime) -> Result<(), Fail> {
+    let alloc = rt.alloc();
+    let mut files = Files::of(alloc, Sample::S0)?;
+    // 4,000 NOPs before the jump, at each of the 13 contexts
+    let nops = vec![in alloc; 0x90; 4_000]?;
+    files.image = replaced(alloc, &files.image, 16, 0, &nops)?;
+    let end = files.run(alloc, "find / i / c", b"")?;
+    assert!(rt; end.is(1, "refused limits\n"));
     Ok(())
 }
 
