@@ -11,3 +11,4 @@ pub mod MomentForms
 pub mod PartLemmas
 pub mod ApartLemmas
 pub mod LoadLemmas
+pub mod ByteLemmas

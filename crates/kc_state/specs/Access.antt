@@ -1,5 +1,5 @@
 -- Which bytes may be accessed, and which hold no live byte, this project's own.
-use Rattle.std.specs.Prelude.{ℕ, zero, suc, ◌+◌, max, Bool, true, false, ◌&&◌, ◌==◌, not, nat_le, Option, Some, None, get_or, pos, neg_ℤ, int_le}
+use Rattle.std.specs.Prelude.{ℕ, zero, suc, ◌+◌, ◌^◌, ◌<◌, ◌≤◌, max, Bool, true, false, ◌&&◌, ◌==◌, not, nat_le, Option, Some, None, get_or, pos, neg_ℤ, int_le}
 use Rattle.kc_bits.specs.Bits.{word}
 use Rattle.kc_frames.specs.Floors.{floor_number, floor_top, none_live}
 use Rattle.kc_frames.specs.declared.floor.Floor.{Floor}
@@ -12,6 +12,7 @@ use Rattle.kc_regions.specs.declared.region.Region.{Region}
 use Rattle.kc_regions.specs.declared.touch.Touch.{Touch}
 use Rattle.kc_space.specs.declared.map.MapState.{MapState}
 use Rattle.kc_space.specs.declared.map.MapState.TheVariants.{Kernel as KernelMap, User as UserMap, Any as AnyMap}
+use Rattle.kc_words.specs.Range.{Range}
 use Rattle.kc_state.specs.declared.key.Key.{Key}
 use Rattle.kc_state.specs.declared.location.Location.{Location}
 use Rattle.kc_state.specs.declared.location.Location.TheVariants.{Number, Relative}
@@ -24,9 +25,13 @@ is_present_under KernelMap r = not (is_guard r.kind)
 is_present_under UserMap r = not (is_guard r.kind) && r.user_map
 is_present_under AnyMap r = not (is_guard r.kind) && r.user_map
 
--- address a lies in a region that is present and has the right
+-- the region is present and has the right
+abbrev pub may_region : MapState → Touch → Region → Bool
+may_region map touch r = is_present_under map r && has_right touch r
+
+-- address a lies in such a region
 abbrev pub may_byte : Description → MapState → Touch → ℕ → Bool
-may_byte d map touch a = passes (λ r. is_present_under map r && has_right touch r) (region_of d.regions a)
+may_byte d map touch a = passes (λ r. may_region map touch r) (region_of d.regions a)
 
 -- each of the n bytes from a
 unfoldable pub may_bytes : Description → MapState → Touch → ℕ → ℕ → Bool
@@ -77,3 +82,11 @@ is_base_clear floors (Some s) = is_base_or_none (get_or floors.at s floor_top)
 abbrev pub clear : Description → Key → Floors → Location → ℕ → Bool
 clear d key floors (Number a) size = clear_bytes d key floors (a + size) a (max size 1)
 clear d key floors (Relative k) size = int_le k (neg_ℤ (pos size)) && is_base_clear floors key.stack
+
+-- ---- machinery of the walks over bytes
+
+-- the span holds the n bytes from a on; it ends below 2^64, so that they don't wrap
+pub record HoldsBytes (s : Range) (a n : ℕ) : Type 0 where
+  pub from : s.from ≤ a
+  pub to : a + n ≤ s.to
+  pub fits : s.to < 2 ^ 64

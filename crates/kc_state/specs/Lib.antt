@@ -2,6 +2,7 @@ pub mod Key
 pub mod Location
 pub mod Places
 pub mod Marks
+pub mod MarkWalk
 pub mod Access
 pub mod Shift
 pub mod Memory

@@ -1,9 +1,10 @@
 //! Which bytes may be accessed, and which hold no live byte, this project's own.
 
-ghost use Rattle.std.specs.Prelude.{◌≡◌, ◌<◌, ◌≤◌, ◌+◌, IfSome, length, nat_le};
+ghost use Rattle.std.specs.Prelude.{◌≡◌, ◌<◌, ◌≤◌, ◌+◌, true, Some, IfSome, length, nat_le};
 ghost use Rattle.kc_regions.specs.Permission.{has_right};
+ghost use Rattle.kc_regions.specs.Region.{region_of};
 ghost use Rattle.kc_state.specs.declared.location.Location.TheVariants.{Number};
-ghost use Rattle.kc_state.specs.Access.{is_present_under, may_byte, may_bytes, is_stack_present, may, is_floor_from, clear_stack, clear_bytes, is_base_or_none, is_base_clear, clear};
+ghost use Rattle.kc_state.specs.Access.{is_present_under, may_region, may_byte, may_bytes, HoldsBytes, is_stack_present, may, is_floor_from, clear_stack, clear_bytes, is_base_or_none, is_base_clear, clear};
 
 use crate::key::Key;
 use crate::location::Location;
@@ -49,13 +50,58 @@ fn may_byte(cfg: &Config, map: MapState, touch: Touch, a: u64) -> bool
     ensures { result ≡ may_byte cfg.now map touch a }
 {
     match cfg.regions.of(a) {
-        Some(region) => is_present_under(map, region) && has_right(touch, region),
+        Some(region) => may_region(map, touch, region),
         None => false,
     }
 }
 
-#[tactic(auto, using(crate::proofs::AccessLemmas::may_bytes_first, crate::proofs::AccessLemmas::may_bytes_none))]
+// Whether the `size` bytes from `a` on all lie in the region.
+fn holds_bytes(region: &Region, a: u64, size: u8) -> bool
+    ensures { result ≡ true → HoldsBytes region.now.span a size }
+{
+    let span = &region.span;
+    span.from <= a && a <= span.to && u64::from(size) <= span.to - a
+}
+
+// Whether the region is present under the map and has the right.
+fn may_region(map: MapState, touch: Touch, region: &Region) -> bool
+    ensures { result ≡ may_region map touch region.now }
+{
+    is_present_under(map, region) && has_right(touch, region)
+}
+
 fn may_bytes(cfg: &Config, map: MapState, touch: Touch, a: u64, size: u8) -> bool
+    ensures { result ≡ may_bytes cfg.now map touch a size }
+{
+    match cfg.regions.of(a) {
+        Some(region) => may_from(cfg, map, touch, region, a, size),
+        None => may_each(cfg, map, touch, a, size),
+    }
+}
+
+// The same, where this region holds the first byte: where it holds all of them, it decides.
+fn may_from(
+    cfg: &Config,
+    map: MapState,
+    touch: Touch,
+    first: &Region,
+    a: u64,
+    size: u8,
+) -> bool
+    requires { region_of cfg.now.regions a ≡ Some first.now }
+    ensures { result ≡ may_bytes cfg.now map touch a size }
+{
+    cfg.tell();
+    if size != 0 && holds_bytes(first, a, size) {
+        may_region(map, touch, first)
+    } else {
+        may_each(cfg, map, touch, a, size)
+    }
+}
+
+// The same, byte by byte.
+#[tactic(auto, using(crate::proofs::AccessLemmas::may_bytes_first, crate::proofs::AccessLemmas::may_bytes_none))]
+fn may_each(cfg: &Config, map: MapState, touch: Touch, a: u64, size: u8) -> bool
     ensures { result ≡ may_bytes cfg.now map touch a size }
 {
     let mut at = a;
@@ -95,8 +141,39 @@ pub fn clear(cfg: &Config, key: &Key, floors: &Floors, l: Location, size: u8) ->
     }
 }
 
-#[tactic(auto, using(crate::proofs::AccessLemmas::clear_bytes_first, crate::proofs::AccessLemmas::clear_bytes_none, crate::proofs::StackLemmas::is_place))]
 fn clear_bytes(cfg: &Config, key: &Key, floors: &Floors, a: u64, size: u8) -> bool
+    ensures { result ≡ clear cfg.now key.now floors.now (Number a) size }
+{
+    match cfg.regions.of(a) {
+        Some(region) => clear_from(cfg, key, floors, region, a, size),
+        None => clear_each(cfg, key, floors, a, size),
+    }
+}
+
+// The same, where this region holds the first byte: where it holds all of them, they meet one stack at most.
+#[tactic(auto, using(crate::proofs::StackLemmas::is_place))]
+fn clear_from(
+    cfg: &Config,
+    key: &Key,
+    floors: &Floors,
+    first: &Region,
+    a: u64,
+    size: u8,
+) -> bool
+    requires { region_of cfg.now.regions a ≡ Some first.now }
+    ensures { result ≡ clear cfg.now key.now floors.now (Number a) size }
+{
+    cfg.tell();
+    if holds_bytes(first, a, size.max(1)) {
+        clear_stack(key, floors, a, size, cfg.regions.stack_of(a))
+    } else {
+        clear_each(cfg, key, floors, a, size)
+    }
+}
+
+// The same, byte by byte.
+#[tactic(auto, using(crate::proofs::AccessLemmas::clear_bytes_first, crate::proofs::AccessLemmas::clear_bytes_none, crate::proofs::StackLemmas::is_place))]
+fn clear_each(cfg: &Config, key: &Key, floors: &Floors, a: u64, size: u8) -> bool
     ensures { result ≡ clear cfg.now key.now floors.now (Number a) size }
 {
     cfg.tell();

@@ -1,14 +1,13 @@
 //! Where values point and where the tracked words lie, this project's own.
 
-ghost use Rattle.std.specs.Prelude.{◌≡◌, ◌<◌, ◌≤◌, Some, option_copied, slice_get};
-ghost use Rattle.kc_regions.specs.Region.{marked_of};
+ghost use Rattle.std.specs.Prelude.{◌≡◌, ◌<◌, ◌≤◌, Some};
 ghost use Rattle.kc_bits.specs.Bits.{word};
 ghost use Rattle.kc_regions.specs.Lookup.{tss_word};
 ghost use Rattle.kc_state.specs.Places.{location_stack, is_interrupted_rsp, value_stack, home_stack, tracked_word, base_word, word_of};
 
 use crate::key::Key;
 use crate::location::{Location, loc};
-use kc_regions::{Config, Region};
+use kc_regions::Config;
 use kc_value::{Sym, Value};
 
 /// The stack in which `v` points in a context with this key: that of the key for the interrupted RSP
@@ -91,15 +90,4 @@ fn below_base(key: &Key, n: u16) -> Option<Location>
         None if key.syscall => None,
         None => Some(Location::Relative(-8 * i64::from(n))),
     }
-}
-
-// Marked stack `m`, counted in the order of the regions.
-pub(crate) fn marked_stack(regions: &[Region], m: usize) -> Option<&Region>
-    ensures { option_copied result ≡ slice_get (marked_of regions.now) m }
-{
-    regions
-        .iter()
-        .filter(|r| r.kind.is_stack())
-        .filter(|r| r.marked)
-        .nth(m)
 }

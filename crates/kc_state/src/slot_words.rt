@@ -1,17 +1,21 @@
 //! Where the words of the slots lie in a context, with the marked stacks looked up once. This project's
 //! own.
 
-ghost use Rattle.std.specs.Prelude.{◌≡◌, ◌<◌, ◌≤◌, ◌+◌, ◌-◌, ◌*◌, ◌^◌, true, length, nat_le};
-ghost use Rattle.kc_state.specs.Marks.{mark_in, marks_of};
+ghost use Rattle.std.specs.Prelude.{◌≡◌, ◌<◌, ◌≤◌, ◌+◌, ◌-◌, ◌*◌, ◌^◌, true, false, List, ◌∷◌, length, set, Some, nat_le};
+ghost use Rattle.kc_regions.specs.Region.{is_stack};
+ghost use Rattle.kc_regions.specs.declared.region.Region.{Region as TheRegion};
+ghost use Rattle.kc_state.specs.declared.slot_words.Mark.{Mark as TheMark};
+ghost use Rattle.kc_state.specs.Marks.{mark_in, marks_of, with_marks};
+ghost use Rattle.kc_state.specs.MarkWalk.{marks_left};
 ghost use Rattle.kc_state.specs.Memory.{is_marked_slot, hits};
 ghost use Rattle.kc_state.specs.PartSteps.{hits_stack, AreApart, IsApartFrom, IsApart, IsMissed};
 ghost use Rattle.kc_state.specs.Places.{marked_word, word_of};
 
 use crate::key::Key;
 use crate::location::Location;
-use crate::places::{marked_stack, near_word};
+use crate::places::near_word;
 use crate::slot::{is_same_stack, meets_word};
-use kc_regions::Config;
+use kc_regions::{Config, Region};
 
 /// A marked stack: where it ends, and its number.
 #[derive(Clone, Copy)]
@@ -20,17 +24,84 @@ pub struct Mark {
     pub stack: Option<u8>,
 }
 
-// Marked stack `m`, counted in the order of the regions.
-fn mark_in(cfg: &Config, m: usize) -> Option<Mark>
-    ensures { result ≡ mark_in cfg.now m }
+// Puts the mark at this place, if there is one, and says whether there is.
+fn put(places: &mut [Option<Mark>], at: usize, mark: Mark) -> bool
+    ensures put { result ≡ true → (places.new ≡ set places.old at (Some mark)) × (at < length places.old) }
+    ensures full { result ≡ false → (places.new ≡ places.old) × (length places.old ≤ at) }
 {
-    match marked_stack(cfg.regions.list(), m) {
-        Some(r) => Some(Mark {
-            to: r.span.to,
-            stack: cfg.regions.stack_of(r.span.to.wrapping_sub(1)),
-        }),
-        None => None,
+    if at < places.len() {
+        places[at] = Some(mark);
+        true
+    } else {
+        false
     }
+}
+
+// The marked stacks that a walk over the regions has found, and how many stacks it has passed.
+#[derive(Drop)]
+struct Found {
+    marks: [Option<Mark>; 3],
+    count: usize,
+    stacks: u8,
+}
+
+impl Found {
+    // Adds a mark, where there is room.
+    #[tactic(auto, using(crate::proofs::MarkLemmas::add_full))]
+    fn add(&mut self, mark: Mark)
+        ensures stacks { self.new.stacks ≡ self.old.stacks }
+        ensures marks { (more : List TheMark) → with_marks self.new.count self.new.marks more
+            ≡ with_marks self.old.count self.old.marks (mark ∷ more) }
+    {
+        if put(&mut self.marks, self.count, mark) {
+            self.count += 1;
+        }
+    }
+
+    // Passes the next stack.
+    fn pass_stack(&mut self, stack: &Region)
+        requires kind { is_stack stack.now.kind ≡ true }
+        requires room { self.old.stacks < 255 }
+        ensures stacks { self.new.stacks ≡ self.old.stacks + 1 }
+        ensures marks { (rest : List TheRegion) → marks_left self.new rest ≡ marks_left self.old (stack.now ∷ rest) }
+    {
+        let number = self.stacks;
+        self.stacks += 1;
+        if stack.marked {
+            self.add(Mark {
+                to: stack.span.to,
+                stack: Some(number),
+            });
+        }
+    }
+
+    // Passes the next region.
+    fn pass(&mut self, region: &Region)
+        requires room { self.old.stacks < 255 }
+        ensures stacks { self.new.stacks ≤ self.old.stacks + 1 }
+        ensures marks { (rest : List TheRegion) → marks_left self.new rest ≡ marks_left self.old (region.now ∷ rest) }
+    {
+        if region.kind.is_stack() {
+            self.pass_stack(region);
+        }
+    }
+}
+
+// The marked stacks, by one walk over the regions.
+fn marks_of(cfg: &Config) -> [Option<Mark>; 3]
+    ensures { result ≡ marks_of cfg.now }
+{
+    cfg.tell();
+    let mut found = Found {
+        marks: [None; 3],
+        count: 0,
+        stacks: 0,
+    };
+    let list = cfg.regions.list();
+    for region in list {
+        found.pass(region);
+    }
+    found.marks
 }
 
 /// The words of the slots in a context with this key.
@@ -51,7 +122,7 @@ impl<'a> SlotWords<'a> {
         SlotWords {
             cfg,
             key,
-            marks: [mark_in(cfg, 0), mark_in(cfg, 1), mark_in(cfg, 2)],
+            marks: marks_of(cfg),
         }
     }
 

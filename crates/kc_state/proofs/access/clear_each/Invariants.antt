@@ -1,6 +1,6 @@
 use Rattle.std.proofs.Common.{◌≡◌, ◌+◌, max}
 use Rattle.kc_state.specs.Access.{clear_bytes}
-use Rattle.kc_state.proofs.access.clear_bytes.Given as goal
+use Rattle.kc_state.proofs.access.clear_each.Given as goal
 
 -- what is left decides
 abbrev pub invariant-loop-left : goal.invariant-loop-left

@@ -1,6 +1,6 @@
 use Rattle.std.proofs.Common.{◌≡◌}
 use Rattle.kc_state.specs.Access.{may_bytes}
-use Rattle.kc_state.proofs.access.may_bytes.Given as goal
+use Rattle.kc_state.proofs.access.may_each.Given as goal
 
 -- what is left decides
 abbrev pub invariant-loop-left : goal.invariant-loop-left
