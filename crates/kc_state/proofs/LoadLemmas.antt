@@ -1,4 +1,4 @@
--- A load passes over a part of which it meets no word: no word holds bytes that it doesn't meet.
+-- A load passes over a part or a block of which it meets no word: no word holds bytes that it doesn't meet.
 use Rattle.std.proofs.Common.{◌≡◌, ℕ, zero, suc, ◌+◌, ◌*◌, ◌/◌, ◌<◌, ◌≤◌, Bool, true, false, cond, ◌&&◌, ◌||◌, List, length, get_or, drop, Option, Some, None, refl, sym, ap, ◌∙◌, arith}
 use Rattle.std.specs.Prelude.{not, ◌==◌}
 use Rattle.std.proofs.Math.Dec.{eqb-suc-zero}
@@ -42,24 +42,32 @@ offset_missed l size (Some w) some e = begins_nowhere size (distance l w) (dista
 offset_missed l size None some e = refl
 
 module _ (d : Description) (key : Key) (l : Location) (size : ℕ) (some : 0 < size) where
-  passed_some : (part n : ℕ) (x : AbsValue) (slots : List AbsValue) → n ≤ 8 → 8 * part + n ≤ length slots
-      → IsApart d key l size part
-      → loaded_from d key l size (8 * part) (drop (8 * part) slots)
-      ≡ loaded_from d key l size (8 * part + n) (drop (8 * part + n) slots)
-  passed_some part zero x slots few inside apart =
-      let none : 8 * part ≡ 8 * part + 0 = omega arith in
+  passed_some : (from few n : ℕ) (x : AbsValue) (slots : List AbsValue) → n ≤ few → from + n ≤ length slots
+      → IsApart d key l size from few
+      → loaded_from d key l size from (drop from slots) ≡ loaded_from d key l size (from + n) (drop (from + n) slots)
+  passed_some from few zero x slots within inside apart =
+      let none : from ≡ from + 0 = omega arith in
       ap (λ (i : ℕ). loaded_from d key l size i (drop i slots)) none
-  passed_some part (suc n) x slots few inside apart =
-      let i = 8 * part + n in
-      let more : i + 1 ≡ 8 * part + suc n = omega arith in
+  passed_some from few (suc n) x slots within inside apart =
+      let i = from + n in
+      let more : i + 1 ≡ from + suc n = omega arith in
       let below : i < length slots = omega (arith, inside) in
       let v = get_or slots i x in
-      let held = offset_missed l size (word_of d key i) some (apart i (omega arith) (omega (arith, few))) in
-      passed_some part n x slots (omega (arith, few)) (omega (arith, inside)) apart
+      let held = offset_missed l size (word_of d key i) some (apart i (omega arith) (omega (arith, within))) in
+      passed_some from few n x slots (omega (arith, within)) (omega (arith, inside)) apart
       ∙ loaded_step d key l size i slots v below (read_again slots i x below)
       ∙ ap (loaded_or d size v (loaded_from d key l size (i + 1) (drop (i + 1) slots))) held
       ∙ ap (λ (j : ℕ). loaded_from d key l size j (drop j slots)) more
 
-  pub passed : (part : ℕ) (x : AbsValue) (slots : List AbsValue) → 8 * part + 8 ≤ length slots → IsApart d key l size part
-      → IsLoaded d key l size part slots None
-  passed part x slots inside apart = passed_some part 8 x slots (omega arith) inside apart
+  pub passed : (part : ℕ) (x : AbsValue) (slots : List AbsValue) → 8 * part + 8 ≤ length slots
+      → IsApart d key l size (8 * part) 8
+      → IsLoaded d key l size (8 * part) (8 * part + 8) slots None
+  passed part x slots inside apart = passed_some (8 * part) 8 8 x slots (omega arith) inside apart
+
+  pub passed_block : (block : ℕ) (x : AbsValue) (slots : List AbsValue) → 64 * block + 104 ≤ length slots
+      → IsApart d key l size (64 * block + 40) 64
+      → IsLoaded d key l size (64 * block + 40) (64 * block + 104) slots None
+  passed_block block x slots inside apart =
+      let end : 64 * block + 40 + 64 ≡ 64 * block + 104 = omega arith in
+      passed_some (64 * block + 40) 64 64 x slots (omega arith) (omega (arith, inside)) apart
+      ∙ ap (λ (j : ℕ). loaded_from d key l size j (drop j slots)) end

@@ -5,7 +5,7 @@ use Rattle.std.proofs.lemmas.List.{take_all, drop_all, take_more_set, drop-set-l
 use Rattle.kc_frames.specs.Slots.{redone}
 use Rattle.kc_lattice.proofs.ListLemmas.{drop_read, take_read}
 use Rattle.kc_value.specs.AbsValue.{AbsValue}
-use Rattle.kc_state.specs.PartSteps.{changed_from, Stays}
+use Rattle.kc_state.specs.PartSteps.{changed_from, StaysFrom, Stays}
 
 pub read_again : (slots : List AbsValue) (i : ℕ) (x : AbsValue) → i < length slots
     → get_or slots i x ≡ get_or slots i (get_or slots i x)
@@ -48,21 +48,30 @@ module _ (f : ℕ → AbsValue → AbsValue) where
       ∙ ap (λ (x : AbsValue). (take i slots ++ x ∷ []) ++ redone f (i + 1) (drop (i + 1) slots)) (sym same)
       ∙ sym (one_left i v slots h e)
 
-  -- n slots that stay
-  changed_some : (part n : ℕ) (x : AbsValue) (slots : List AbsValue) → n ≤ 8 → 8 * part + n ≤ length slots → Stays f part
-      → changed_from f (8 * part + n) slots ≡ changed_from f (8 * part) slots
-  changed_some part zero x slots few inside stays =
-      let none : 8 * part + 0 ≡ 8 * part = omega arith in
+  -- n of the slots that stay
+  changed_some : (from few n : ℕ) (x : AbsValue) (slots : List AbsValue) → n ≤ few → from + n ≤ length slots
+      → StaysFrom f from few
+      → changed_from f (from + n) slots ≡ changed_from f from slots
+  changed_some from few zero x slots within inside stays =
+      let none : from + 0 ≡ from = omega arith in
       ap (λ (i : ℕ). changed_from f i slots) none
-  changed_some part (suc n) x slots few inside stays =
-      let i = 8 * part + n in
-      let more : 8 * part + suc n ≡ i + 1 = omega arith in
+  changed_some from few (suc n) x slots within inside stays =
+      let i = from + n in
+      let more : from + suc n ≡ i + 1 = omega arith in
       let below : i < length slots = omega (arith, inside) in
       let v = get_or slots i x in
       ap (λ (j : ℕ). changed_from f j slots) more
-      ∙ changed_same i v slots below (read_again slots i x below) (stays i v (omega arith) (omega (arith, few)))
-      ∙ changed_some part n x slots (omega (arith, few)) (omega (arith, inside)) stays
+      ∙ changed_same i v slots below (read_again slots i x below) (stays i v (omega arith) (omega (arith, within)))
+      ∙ changed_some from few n x slots (omega (arith, within)) (omega (arith, inside)) stays
 
   pub changed_part : (part : ℕ) (x : AbsValue) (slots : List AbsValue) → 8 * part + 8 ≤ length slots → Stays f part
       → changed_from f (8 * part + 8) slots ≡ changed_from f (8 * part) slots
-  changed_part part x slots inside stays = changed_some part 8 x slots (omega arith) inside stays
+  changed_part part x slots inside stays = changed_some (8 * part) 8 8 x slots (omega arith) inside stays
+
+  pub changed_block : (block : ℕ) (x : AbsValue) (slots : List AbsValue) → 64 * block + 104 ≤ length slots
+      → StaysFrom f (64 * block + 40) 64
+      → changed_from f (64 * block + 104) slots ≡ changed_from f (64 * block + 40) slots
+  changed_block block x slots inside stays =
+      let end : 64 * block + 104 ≡ 64 * block + 40 + 64 = omega arith in
+      ap (λ (i : ℕ). changed_from f i slots) end
+      ∙ changed_some (64 * block + 40) 64 64 x slots (omega arith) (omega (arith, inside)) stays

@@ -1,6 +1,6 @@
 //! Loads from and stores into the tracked words, this project's own.
 
-ghost use Rattle.std.specs.Prelude.{◌≡◌, ◌≤◌, ◌<◌, ◌*◌, ◌/◌, ◌^◌, Some};
+ghost use Rattle.std.specs.Prelude.{◌≡◌, ◌≤◌, ◌<◌, ◌+◌, ◌*◌, ◌/◌, ◌^◌, Some};
 ghost use Rattle.kc_words.specs.Flags.{bits_of};
 ghost use Rattle.kc_frames.specs.Slots.{redone};
 ghost use Rattle.kc_state.specs.Memory.{distance, offset_in, bits_from, part_of, loaded, is_below, meets, meets_word, is_same_stack, is_just, stored};
@@ -27,12 +27,54 @@ pub fn load(cfg: &Config, key: &Key, slots: &Slots<Value>, l: Location, width: W
 {
     slots.whole();
     let words = SlotWords::of(cfg, key);
-    for part in 0..37 {
-        if let Some(v) = load_part(&words, slots, l, width, part) {
+    if let Some(v) = load_parts(&words, slots, l, width, 0, 5) {
+        return v;
+    }
+    for block in 0..4 {
+        if let Some(v) = load_block(&words, slots, l, width, block) {
             return v;
         }
     }
     derived(cfg, &Bits { zeros: 0, ones: 0 }.cut(width))
+}
+
+// The same of the 64 slots from 64 `block` + 40 on; none where none of their words holds the bytes.
+fn load_block(
+    words: &SlotWords,
+    slots: &Slots<Value>,
+    l: Location,
+    width: Width,
+    block: u16,
+) -> Option<Value>
+    requires { block < 4 }
+    ensures { IsLoaded words.now.cfg.now words.now.key.now l (bits_of width / 8) (64 * block + 40) (64 * block + 104)
+        slots.now result }
+{
+    slots.whole();
+    if words.is_block_apart(l, u32::from(size_of(width)), block) {
+        return None;
+    }
+    load_parts(words, slots, l, width, 8 * block + 5, 8 * block + 13)
+}
+
+// The same of the parts from one up to another.
+fn load_parts(
+    words: &SlotWords,
+    slots: &Slots<Value>,
+    l: Location,
+    width: Width,
+    from: u16,
+    to: u16,
+) -> Option<Value>
+    requires { (from ≤ to) × (to ≤ 37) }
+    ensures { IsLoaded words.now.cfg.now words.now.key.now l (bits_of width / 8) (8 * from) (8 * to) slots.now result }
+{
+    for part in from..to {
+        if let Some(v) = load_part(words, slots, l, width, part) {
+            return Some(v);
+        }
+    }
+    None
 }
 
 // The same of the eight slots of a part; none where none of their words holds the bytes.
@@ -44,7 +86,8 @@ fn load_part(
     part: u16,
 ) -> Option<Value>
     requires { part < 37 }
-    ensures { IsLoaded words.now.cfg.now words.now.key.now l (bits_of width / 8) part slots.now result }
+    ensures { IsLoaded words.now.cfg.now words.now.key.now l (bits_of width / 8) (8 * part) (8 * part + 8)
+        slots.now result }
 {
     slots.whole();
     if words.is_apart(l, u32::from(size_of(width)), part) {
@@ -62,7 +105,8 @@ fn find_in(
     part: u16,
 ) -> Option<Value>
     requires { part < 37 }
-    ensures { IsLoaded words.now.cfg.now words.now.key.now l (bits_of width / 8) part slots.now result }
+    ensures { IsLoaded words.now.cfg.now words.now.key.now l (bits_of width / 8) (8 * part) (8 * part + 8)
+        slots.now result }
 {
     slots.whole();
     let size = size_of(width);
@@ -161,9 +205,10 @@ impl<'a> PartChange for Stored<'a> {
 
     fn at(&self, i: u16, old: &Value) -> Value {
         let words = &self.words;
-        if is_just(self.l, self.size, words.at(i)) {
+        let w = words.at(i);
+        if is_just(self.l, self.size, w) {
             self.v
-        } else if words.hits(self.stack, self.l, u32::from(self.size), i) {
+        } else if words.hits_at(self.stack, self.l, u32::from(self.size), i, w) {
             Value::top()
         } else {
             *old
@@ -173,6 +218,11 @@ impl<'a> PartChange for Stored<'a> {
     fn keeps(&self, part: u16) -> bool {
         let words = &self.words;
         words.misses(self.stack, self.l, u32::from(self.size), part)
+    }
+
+    fn keeps_block(&self, block: u16) -> bool {
+        let words = &self.words;
+        words.misses_block(self.stack, self.l, u32::from(self.size), block)
     }
 }
 

@@ -8,7 +8,7 @@ ghost use Rattle.kc_state.specs.declared.slot_words.Mark.{Mark as TheMark};
 ghost use Rattle.kc_state.specs.Marks.{mark_in, marks_of, with_marks};
 ghost use Rattle.kc_state.specs.MarkWalk.{marks_left};
 ghost use Rattle.kc_state.specs.Memory.{is_marked_slot, hits};
-ghost use Rattle.kc_state.specs.PartSteps.{hits_stack, AreApart, IsApartFrom, IsApart, IsMissed};
+ghost use Rattle.kc_state.specs.PartSteps.{hits_stack, AreApart, IsApartFrom, IsApart, IsMissedFrom, IsMissed};
 ghost use Rattle.kc_state.specs.Places.{marked_word, word_of};
 
 use crate::key::Key;
@@ -189,18 +189,34 @@ impl<'a> SlotWords<'a> {
 
     /// Whether a change of the `size` bytes at `l`, which belong to this stack, may change the word of
     /// slot `i`.
-    #[tactic(auto, using(crate::proofs::ApartLemmas::hit_by))]
     pub fn hits(&self, stack: Option<u8>, l: Location, size: u32, i: u16) -> bool
         requires { i < 296 }
         ensures value { result ≡ hits self.now.cfg.now self.now.key.now stack l size i }
     {
-        meets_word(l, size, self.at(i)) || self.hits_stack(stack, l, i)
+        self.hits_at(stack, l, size, i, self.at(i))
+    }
+
+    // The same, where this is the word of slot `i`.
+    #[tactic(auto, using(crate::proofs::ApartLemmas::hit_by))]
+    pub(crate) fn hits_at(
+        &self,
+        stack: Option<u8>,
+        l: Location,
+        size: u32,
+        i: u16,
+        w: Option<Location>,
+    ) -> bool
+        requires slot { i < 296 }
+        requires word { w ≡ word_of self.now.cfg.now self.now.key.now i }
+        ensures value { result ≡ hits self.now.cfg.now self.now.key.now stack l size i }
+    {
+        meets_word(l, size, w) || self.hits_stack(stack, l, i)
     }
 
     // Whether part 1 to 4 has no tracked word, or part 0 to 4 no offset.
     fn is_near_apart(&self, l: Location, size: u32, part: u16) -> bool
         requires { part < 5 }
-        ensures { result ≡ true → IsApart self.now.cfg.now self.now.key.now l size part }
+        ensures { result ≡ true → IsApart self.now.cfg.now self.now.key.now l size (8 * part) 8 }
     {
         let cfg = self.cfg;
         match l {
@@ -212,13 +228,21 @@ impl<'a> SlotWords<'a> {
     // Whether the bytes are known to meet none of the words of the part.
     pub(crate) fn is_apart(&self, l: Location, size: u32, part: u16) -> bool
         requires { part < 37 }
-        ensures { result ≡ true → IsApart self.now.cfg.now self.now.key.now l size part }
+        ensures { result ≡ true → IsApart self.now.cfg.now self.now.key.now l size (8 * part) 8 }
     {
         if part < 5 {
             self.is_near_apart(l, size, part)
         } else {
-            is_apart_from(l, size, self.at(8 * part + 7))
+            is_apart_from(l, size, self.at(8 * part + 7), 64)
         }
+    }
+
+    // Whether the bytes are known to meet none of the words of the 64 slots from 64 `block` + 40 on.
+    pub(crate) fn is_block_apart(&self, l: Location, size: u32, block: u16) -> bool
+        requires { block < 4 }
+        ensures { result ≡ true → IsApart self.now.cfg.now self.now.key.now l size (64 * block + 40) 64 }
+    {
+        is_apart_from(l, size, self.at(64 * block + 103), 512)
     }
 
     /// Whether such a change is known to change no word of the slots from 8 `part` to 8 `part` + 7.
@@ -231,6 +255,18 @@ impl<'a> SlotWords<'a> {
         }
         self.is_apart(l, size, part)
     }
+
+    /// Whether such a change is known to change no word of the 64 slots from 64 `block` + 40 on.
+    pub fn misses_block(&self, stack: Option<u8>, l: Location, size: u32, block: u16) -> bool
+        requires { block < 4 }
+        ensures missed { result ≡ true
+            → IsMissedFrom self.now.cfg.now self.now.key.now stack l size (64 * block + 40) 64 }
+    {
+        if self.hits_stack(stack, l, 64 * block + 40) {
+            return false;
+        }
+        self.is_block_apart(l, size, block)
+    }
 }
 
 // Whether the description has no word for the slots of the part.
@@ -241,21 +277,21 @@ fn is_past_words(cfg: &Config, part: u16) -> bool
     cfg.words.len() <= usize::from(8 * part - 8)
 }
 
-// Whether the `size` bytes at `a` have none in common with the 64 bytes at `b`.
-fn are_apart(a: u64, size: u32, b: u64) -> bool
-    ensures { result ≡ true → AreApart a size b }
+// Whether the `size` bytes at `a` have none in common with the `n` bytes at `b`.
+fn are_apart(a: u64, size: u32, b: u64, n: u64) -> bool
+    ensures { result ≡ true → AreApart a size b n }
 {
-    64 <= a.wrapping_sub(b) && u64::from(size) <= b.wrapping_sub(a)
+    n <= a.wrapping_sub(b) && u64::from(size) <= b.wrapping_sub(a)
 }
 
-// Whether the bytes at `l` have none in common with the 64 bytes from `low` on.
-fn is_apart_from(l: Location, size: u32, low: Option<Location>) -> bool
-    ensures { result ≡ true → IsApartFrom l size low }
+// Whether the bytes at `l` have none in common with the `n` bytes from `low` on.
+fn is_apart_from(l: Location, size: u32, low: Option<Location>, n: u64) -> bool
+    ensures { result ≡ true → IsApartFrom l size low n }
 {
     match (l, low) {
-        (Location::Number(a), Some(Location::Number(b))) => are_apart(a, size, b),
+        (Location::Number(a), Some(Location::Number(b))) => are_apart(a, size, b, n),
         (Location::Relative(k), Some(Location::Relative(j))) => {
-            are_apart(k.cast_unsigned(), size, j.cast_unsigned())
+            are_apart(k.cast_unsigned(), size, j.cast_unsigned(), n)
         }
         _ => true,
     }

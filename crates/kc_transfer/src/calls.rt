@@ -52,6 +52,12 @@ impl<'a> PartChange for Used<'a> {
         let from = moved_down(self.l, self.depth);
         words.misses(self.stack, from, self.depth, part)
     }
+
+    fn keeps_block(&self, block: u16) -> bool {
+        let words = &self.words;
+        let from = moved_down(self.l, self.depth);
+        words.misses_block(self.stack, from, self.depth, block)
+    }
 }
 
 /// What a handler that uses `depth` bytes below `l`, which is RSP, leaves of the slots: those that it may

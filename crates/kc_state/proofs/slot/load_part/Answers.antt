@@ -14,7 +14,7 @@ returns-then-is_apart c =
     let slots = c.args.slots.now in
     let count : length slots ≡ 296 = c.whole.ensures.count in
     let inside : 8 * part + 8 ≤ length slots = omega (arith, count, c.requires) in
-    let apart : IsApart d key c.args.l (bits_of c.args.width / 8) part =
-    subst (λ n. IsApart d key c.args.l n part) c.size_of.ensures
-    (subst (λ n. IsApart d key c.args.l n part) c.from.ensures (c.is_apart.ensures c.if-is_apart.true)) in
+    let apart : IsApart d key c.args.l (bits_of c.args.width / 8) (8 * part) 8 =
+    subst (λ n. IsApart d key c.args.l n (8 * part) 8) c.size_of.ensures
+    (subst (λ n. IsApart d key c.args.l n (8 * part) 8) c.from.ensures (c.is_apart.ensures c.if-is_apart.true)) in
     passed d key c.args.l (bits_of c.args.width / 8) (some_bytes c.args.width) part value_top slots inside apart

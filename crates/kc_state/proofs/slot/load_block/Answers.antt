@@ -1,0 +1,21 @@
+use Rattle.std.proofs.Common.{◌≡◌, ◌+◌, ◌*◌, ◌/◌, ◌≤◌, length, subst, arith}
+use Rattle.kc_value.specs.Value.{value_top}
+use Rattle.kc_words.specs.Flags.{bits_of}
+use Rattle.kc_state.specs.PartSteps.{IsApart}
+use Rattle.kc_state.proofs.LoadLemmas.{some_bytes, passed_block}
+use Rattle.kc_state.proofs.slot.load_block.Goals as goal
+
+-- the bytes meet none of its words
+pub returns-then-is_block_apart : goal.returns-then-is_block_apart
+returns-then-is_block_apart c =
+    let d = c.args.words.now.cfg.now in
+    let key = c.args.words.now.key.now in
+    let from = 64 * c.args.block + 40 in
+    let slots = c.args.slots.now in
+    let count : length slots ≡ 296 = c.whole.ensures.count in
+    let inside : 64 * c.args.block + 104 ≤ length slots = omega (arith, count, c.requires) in
+    let apart : IsApart d key c.args.l (bits_of c.args.width / 8) from 64 =
+    subst (λ n. IsApart d key c.args.l n from 64) c.size_of.ensures
+    (subst (λ n. IsApart d key c.args.l n from 64) c.from.ensures (c.is_block_apart.ensures c.if-is_block_apart.true)) in
+    passed_block d key c.args.l (bits_of c.args.width / 8) (some_bytes c.args.width) c.args.block value_top slots inside
+    apart
