@@ -1,5 +1,5 @@
 -- The marked stacks of a description, looked up once for all slots: machinery of the walk over them.
-use Rattle.std.specs.Prelude.{ℕ, suc, cond, List, [], ◌∷◌, set, Option, Some, None, option_map, slice_get}
+use Rattle.std.specs.Prelude.{ℕ, suc, cond, List, [], ◌∷◌, set, Option, Some, option_map, slice_get}
 use Rattle.kc_regions.specs.Description.{Description}
 use Rattle.kc_regions.specs.Region.{is_stack, stack_of, marked_of}
 use Rattle.kc_regions.specs.declared.region.Region.{Region}

@@ -3,7 +3,7 @@ use Rattle.kc_bits.specs.Bits.{bits_cut, nothing_known}
 use Rattle.kc_regions.specs.Region.{stack_of}
 use Rattle.kc_value.specs.Made.{derived}
 use Rattle.kc_words.specs.Flags.{bits_of}
-use Rattle.kc_state.specs.Memory.{loaded_from, loaded}
+use Rattle.kc_state.specs.Memory.{loaded_from}
 use Rattle.kc_state.specs.PartSteps.{IsLoaded}
 use Rattle.kc_state.proofs.SlotLemmas.{whole_bytes, loaded_end}
 use Rattle.kc_state.proofs.slot.load.Goals as goal
