@@ -80,14 +80,7 @@ fn may_bytes(cfg: &Config, map: MapState, touch: Touch, a: u64, size: u8) -> boo
 }
 
 // The same, where this region holds the first byte: where it holds all of them, it decides.
-fn may_from(
-    cfg: &Config,
-    map: MapState,
-    touch: Touch,
-    first: &Region,
-    a: u64,
-    size: u8,
-) -> bool
+fn may_from(cfg: &Config, map: MapState, touch: Touch, first: &Region, a: u64, size: u8) -> bool
     requires { region_of cfg.now.regions a ≡ Some first.now }
     ensures { result ≡ may_bytes cfg.now map touch a size }
 {
@@ -152,14 +145,7 @@ fn clear_bytes(cfg: &Config, key: &Key, floors: &Floors, a: u64, size: u8) -> bo
 
 // The same, where this region holds the first byte: where it holds all of them, they meet one stack at most.
 #[tactic(auto, using(crate::proofs::StackLemmas::is_place))]
-fn clear_from(
-    cfg: &Config,
-    key: &Key,
-    floors: &Floors,
-    first: &Region,
-    a: u64,
-    size: u8,
-) -> bool
+fn clear_from(cfg: &Config, key: &Key, floors: &Floors, first: &Region, a: u64, size: u8) -> bool
     requires { region_of cfg.now.regions a ≡ Some first.now }
     ensures { result ≡ clear cfg.now key.now floors.now (Number a) size }
 {
