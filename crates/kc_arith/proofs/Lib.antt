@@ -1,2 +1,5 @@
 pub mod MarkLemmas
 pub mod WidthLemmas
+pub mod FlagLemmas
+pub mod ResultLemmas
+pub mod ArithmeticLemmas

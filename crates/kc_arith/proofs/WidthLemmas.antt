@@ -24,7 +24,7 @@ use Rattle.kc_value.proofs.MadeLemmas.{derived_stands}
 use Rattle.kc_state.specs.Operand.{at_width, bits_value, scaled_bits}
 use Rattle.kc_state.specs.Scaled.{is_scale}
 use Rattle.kc_state.proofs.ScaleLemmas.{scales, scaled_fits}
-use Rattle.kc_arith.specs.Covers.{Covers, SamePlaces, StandsAt}
+use Rattle.kc_arith.specs.Covers.{Covers, HasBits, SamePlaces, StandsAt}
 use Rattle.kc_arith.proofs.MarkLemmas.{known_at, stands_from, apart_from}
 
 -- ---- widths
@@ -144,8 +144,10 @@ bits_represent d env b n same c =
 pub value_stands : (env : ValueEnv) (w : Width) (v : AbsValue) (n : ℕ) → n < 2 ^ bits_of w → Represents v env n
     → StandsAt env w v n
 value_stands env w v n fits r = record {
-  fits = fits;
-  bits = subst (StandsFor (bits_cut (bits_of w) v.bits)) (mod-eq_of_lt fits) (cut_sound w v.bits n r.bits);
+  bits = record {
+    fits = fits;
+    known = subst (StandsFor (bits_cut (bits_of w) v.bits)) (mod-eq_of_lt fits) (cut_sound w v.bits n r.bits);
+  };
   whole = λ e. r;
 }
 
@@ -158,11 +160,15 @@ width_represents d env Long v n same fits r =
     bits_represent d env (bits_cut 32 v.bits) (n % 2 ^ 32) same (cut_stands Long v.bits n r.bits)
 width_represents d env Quad v n same fits r = subst (Represents v env) (sym (mod-eq_of_lt fits)) r
 
+-- the bits of an operand cover it
+pub operand_covers : (w : Width) (b : KnownBits) (n : ℕ) → HasBits w b n → Covers (bits_cut (bits_of w) b) n
+operand_covers w b n h = cut_covers w b n h.fits h.known
+
 -- an operand goes into a register
 pub put_represents : (d : Description) (env : ValueEnv) (w : Width) (v : AbsValue) (n : ℕ) → SamePlaces d env
     → StandsAt env w v n → Represents (at_width d w v) env n
 put_represents d env Byte v n same s =
-    bits_represent d env (bits_cut 8 v.bits) n same (cut_covers Byte v.bits n s.fits s.bits)
+    bits_represent d env (bits_cut 8 v.bits) n same (operand_covers Byte v.bits n s.bits)
 put_represents d env Long v n same s =
-    bits_represent d env (bits_cut 32 v.bits) n same (cut_covers Long v.bits n s.fits s.bits)
+    bits_represent d env (bits_cut 32 v.bits) n same (operand_covers Long v.bits n s.bits)
 put_represents d env Quad v n same s = s.whole refl

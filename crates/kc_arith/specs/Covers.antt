@@ -1,5 +1,6 @@
 -- When what the analysis knows of a number covers what the processor has. This project's own.
 use Rattle.std.specs.Prelude.{◌≡◌, ℕ, ◌^◌, ◌<◌, bit_and}
+use Rattle.std.specs.Int.{bit_at}
 use Rattle.kc_bits.specs.KnownBits.{KnownBits}
 use Rattle.kc_bits.specs.Bits.{IsValid, StandsFor, flipped, bits_cut}
 use Rattle.kc_bits.specs.BitsLaws.{Has}
@@ -12,6 +13,7 @@ use Rattle.kc_value.specs.declared.env.ValueEnv.{ValueEnv}
 use Rattle.kc_words.specs.Flags.{bits_of}
 use Rattle.kc_words.specs.declared.width.Width.{Width}
 use Rattle.kc_words.specs.declared.width.Width.TheVariants.{Quad}
+use Rattle.kc_exec.specs.Admitted.{model_flags}
 
 -- ---- known bits
 
@@ -20,6 +22,11 @@ pub record Covers (b : KnownBits) (n : ℕ) : Type 0 where
   pub valid : IsValid b
   pub fits : n < 2 ^ 64
   pub stands : StandsFor b n
+
+-- and n is an operand of this width
+pub record CoversOperand (w : Width) (b : KnownBits) (n : ℕ) : Type 0 where
+  pub fits : n < 2 ^ bits_of w
+  pub covers : Covers b n
 
 -- The analysis forgets some flags, and knows the given ones and zeros afterwards; the processor replaces the defined
 -- flags by those of `new`. What is given is right.
@@ -31,6 +38,16 @@ pub record Gives (forget ones zeros defined new : ℕ) : Type 0 where
   pub ones_given : Has (bit_and new defined) ones
   pub zeros_given : Has (bit_and (flipped new) defined) zeros
 
+-- n is an operand of this width, and the bits of b that the width has are known bits of it
+pub record HasBits (w : Width) (b : KnownBits) (n : ℕ) : Type 0 where
+  pub fits : n < 2 ^ bits_of w
+  pub known : StandsFor (bits_cut (bits_of w) b) n
+
+-- bit 1 is set, and no flag outside the model is
+pub record AreModelled (flags : ℕ) : Type 0 where
+  pub fixed : bit_at flags 1 ≡ 1
+  pub modelled : bit_and flags model_flags ≡ flags
+
 -- ---- values
 
 -- the stacks of the description are those of the values
@@ -39,6 +56,5 @@ SamePlaces d env = (n : ℕ) → n < 2 ^ 64 → HasPlace env.stacks (stack_of d.
 
 -- n is an operand of this width, of which v is known: bits of the width alone, but at 64 bits all that a value says
 pub record StandsAt (env : ValueEnv) (w : Width) (v : AbsValue) (n : ℕ) : Type 0 where
-  pub fits : n < 2 ^ bits_of w
-  pub bits : StandsFor (bits_cut (bits_of w) v.bits) n
+  pub bits : HasBits w v.bits n
   pub whole : w ≡ Quad → Represents v env n

@@ -2,6 +2,8 @@
 //! processor has. Nothing here runs.
 #![tactic(auto)]
 
-mod laws;
+mod masks;
+mod operations;
 
-pub use laws::{flags_replaced, scaled_words, widths};
+pub use masks::{flags_replaced, scaled_words, widths};
+pub use operations::arithmetic;

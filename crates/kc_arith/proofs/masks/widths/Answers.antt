@@ -1,5 +1,5 @@
 use Rattle.kc_arith.proofs.WidthLemmas.{cut_stands, bits_represent, value_stands, width_represents, put_represents}
-use Rattle.kc_arith.proofs.laws.widths.Goals as goal
+use Rattle.kc_arith.proofs.masks.widths.Goals as goal
 
 pub returns : goal.returns
 returns c = record {

@@ -1,5 +1,5 @@
 use Rattle.kc_arith.proofs.MarkLemmas.{flags_replaced}
-use Rattle.kc_arith.proofs.laws.flags_replaced.Goals as goal
+use Rattle.kc_arith.proofs.masks.flags_replaced.Goals as goal
 
 pub returns : goal.returns
 returns c = record { covers = flags_replaced }
