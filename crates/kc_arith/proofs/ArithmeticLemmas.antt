@@ -6,7 +6,7 @@ use Rattle.std.proofs.Common.{◌≡◌, ℕ, ◌+◌, ◌-◌, ◌%◌, ◌^◌
 use Rattle.std.specs.Prelude.{if◌then◌else◌, IfSome}
 use Rattle.std.proofs.lemmas.Bool.{false≢true, cases_Bool, and_parts, and_right, not-true, not_from_true, le-ltb, eqb-true, eqb-false, eq-eqb, ne_eqb}
 use Rattle.std.proofs.lemmas.Nat.{and_le_r}
-use Rattle.std.proofs.lemmas.Nat.Bits.{same_from_bits, bit_at_and, bit_at_or, bit_at_xor, bit_at-lt, bit_at-zero}
+use Rattle.std.proofs.lemmas.Nat.Bits.{same_from_bits, bit_at_and, bit_at_or, bit_at_xor, bit_at-zero}
 use Rattle.std.proofs.Math.Nat.{mod-eq_of_lt}
 use Rattle.std.specs.Int.{bit_at}
 use Rattle.kc_words.specs.Flags.{bits_of, sign, borrows, overflows, flag, difference, result_flags, sum_flags, difference_flags}
@@ -27,7 +27,7 @@ use Rattle.kc_state.specs.AbsEffect.{cancels}
 use Rattle.kc_exec.specs.RFlags.{replaced}
 use Rattle.kc_exec.specs.Effect.{alu_flags, alu_result}
 use Rattle.kc_arith.specs.Covers.{Covers, CoversOperand, HasBits}
-use Rattle.kc_arith.proofs.MarkLemmas.{known_at, bit_at-replaced, flags_replaced}
+use Rattle.kc_arith.proofs.MarkLemmas.{known_at, defined_bit, flags_replaced}
 use Rattle.kc_arith.proofs.WidthLemmas.{operand_covers}
 use Rattle.kc_arith.proofs.FlagLemmas.{one_if, StatusBits, result_bits, sum_bits, difference_bits, known_flag_stands, is_set-one_if, with_tri_covers, carry_and_overflow_clear}
 use Rattle.kc_arith.proofs.ResultLemmas.{outcome, outcome_fits, outcome_covers}
@@ -123,12 +123,6 @@ defines op = both (is_logic op)
     both : (logic : Bool) → Defines (cond logic logic_status status)
     both true = record { fits = omega arith; cf = refl; zf = refl; sf = refl; of = refl; forgets = refl }
     both false = record { fits = omega arith; cf = refl; zf = refl; sf = refl; of = refl; forgets = refl }
-
--- a defined flag is the new one
-pub defined_bit : (defined new f i : ℕ) → defined < 2 ^ 64 → i < 64 → bit_at defined i ≡ 1
-    → bit_at (replaced defined new f) i ≡ bit_at new i
-defined_bit defined new f i fits k e =
-    bit_at-replaced defined new f i fits k ∙ omega (arith, e, bit_at-lt new i)
 
 -- ---- both operands are known
 

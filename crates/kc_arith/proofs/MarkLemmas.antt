@@ -131,6 +131,12 @@ bit_at-replaced defined new flags i fits k =
       bit_at_and new defined i,
     )
 
+-- a defined flag is the new one
+pub defined_bit : (defined new f i : ℕ) → defined < 2 ^ 64 → i < 64 → bit_at defined i ≡ 1
+    → bit_at (replaced defined new f) i ≡ bit_at new i
+defined_bit defined new f i fits k e =
+    bit_at-replaced defined new f i fits k ∙ omega (arith, e, bit_at-lt new i)
+
 -- a new bit where it is defined is one of the flags afterwards
 new_bit : (defined new flags i : ℕ) → min (bit_at new i) (bit_at defined i) ≤ bit_at (replaced defined new flags) i
 new_bit defined new flags i =

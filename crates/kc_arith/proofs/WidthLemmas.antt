@@ -29,7 +29,7 @@ use Rattle.kc_arith.proofs.MarkLemmas.{known_at, stands_from, apart_from}
 
 -- ---- widths
 
-below_word : (w : Width) (n : ℕ) → n < 2 ^ bits_of w → n < 2 ^ 64
+pub below_word : (w : Width) (n : ℕ) → n < 2 ^ bits_of w → n < 2 ^ 64
 below_word Byte n h = omega (arith, h)
 below_word Long n h = omega (arith, h)
 below_word Quad n h = h

@@ -2,8 +2,10 @@
 //! processor has. Nothing here runs.
 #![tactic(auto)]
 
+mod flags;
 mod masks;
 mod operations;
 
+pub use flags::{conditions, flag_changes, modelled_flags};
 pub use masks::{flags_replaced, scaled_words, widths};
-pub use operations::arithmetic;
+pub use operations::{arithmetic, bit_tests};
