@@ -6,3 +6,4 @@ pub mod ArithmeticLemmas
 pub mod BitLemmas
 pub mod ConditionLemmas
 pub mod ModelLemmas
+pub mod RowLemmas

@@ -5,7 +5,9 @@
 mod flags;
 mod masks;
 mod operations;
+mod rows;
 
 pub use flags::{conditions, flag_changes, modelled_flags};
 pub use masks::{flags_replaced, scaled_words, widths};
 pub use operations::{arithmetic, bit_tests};
+pub use rows::{arithmetic_rows, branch_rows, flag_rows, operands};
