@@ -1,5 +1,6 @@
 pub mod MarkLemmas
 pub mod WidthLemmas
+pub mod HalfLemmas
 pub mod FlagLemmas
 pub mod ResultLemmas
 pub mod ArithmeticLemmas

@@ -9,7 +9,7 @@ use Rattle.kc_words.proofs.FlagLemmas.{mod_of_mod, bits_in_range, difference-mod
 use Rattle.kc_bits.specs.KnownBits.{KnownBits}
 use Rattle.kc_bits.specs.Bits.{word, bits_and, bits_or, bits_xor, bits_add, bits_sub, bits_cut}
 use Rattle.kc_bits.proofs.Operations.{and_sound, or_sound, xor_sound}
-use Rattle.kc_bits.proofs.Sums.{add_sound, sub_sound}
+use Rattle.kc_bits.proofs.Sums.{add_valid, add_sound, sub_sound}
 use Rattle.kc_insn.specs.declared.insn.AluOp.{AluOp}
 use Rattle.kc_insn.specs.declared.insn.AluOp.TheVariants as alu
 use Rattle.kc_state.specs.Flags.{alu_bits}
@@ -39,11 +39,17 @@ outcome_fits alu.Xor w x y hx hy = xor_lt (bits_of w) x y hx hy
 outcome_fits alu.Cmp w x y hx hy = difference_fits (bits_of w) x y
 
 module _ (a b : KnownBits) (x y : ℕ) (ca : Covers a x) (cb : Covers b y) where
+  pub word_sum_covers : Covers (bits_add a b) (word (x + y))
+  word_sum_covers = record {
+    valid = add_valid a b;
+    fits = mod_below (x + y) (2 ^ 64) (omega arith);
+    stands = add_sound a b ca.valid cb.valid x y ca.fits cb.fits ca.stands cb.stands;
+  }
+
   sum_covers : (w : Width) → Covers (bits_cut (bits_of w) (bits_add a b)) (cut w (x + y))
   sum_covers w =
-      let sum = add_sound a b ca.valid cb.valid x y ca.fits cb.fits ca.stands cb.stands in
       let low : cut w (word (x + y)) ≡ cut w (x + y) = mod_of_mod 64 (bits_of w) (x + y) (bits_in_range w).1 in
-      subst (Covers (bits_cut (bits_of w) (bits_add a b))) low (cut_stands w (bits_add a b) (word (x + y)) sum)
+      subst (Covers (bits_cut (bits_of w) (bits_add a b))) low (cut_stands w (bits_add a b) (word (x + y)) word_sum_covers.stands)
 
   difference_covers : (w : Width) → Covers (bits_cut (bits_of w) (bits_sub a b)) (difference (bits_of w) x y)
   difference_covers w =

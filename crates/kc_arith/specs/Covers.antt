@@ -1,5 +1,5 @@
 -- When what the analysis knows of a number covers what the processor has. This project's own.
-use Rattle.std.specs.Prelude.{◌≡◌, ℕ, ◌^◌, ◌<◌, bit_and}
+use Rattle.std.specs.Prelude.{◌≡◌, ℕ, ◌+◌, ◌*◌, ◌%◌, ◌^◌, ◌<◌, bit_and}
 use Rattle.std.specs.Int.{bit_at}
 use Rattle.kc_bits.specs.KnownBits.{KnownBits}
 use Rattle.kc_bits.specs.Bits.{IsValid, StandsFor, flipped, bits_cut}
@@ -42,6 +42,13 @@ pub record Gives (forget ones zeros defined new : ℕ) : Type 0 where
 pub record HasBits (w : Width) (b : KnownBits) (n : ℕ) : Type 0 where
   pub fits : n < 2 ^ bits_of w
   pub known : StandsFor (bits_cut (bits_of w) b) n
+
+-- the lower halves of two words, one above the other
+abbrev pub joined : KnownBits → KnownBits → KnownBits
+joined high low = record {
+  zeros = high.zeros % 2 ^ 32 * 2 ^ 32 + low.zeros % 2 ^ 32;
+  ones = high.ones % 2 ^ 32 * 2 ^ 32 + low.ones % 2 ^ 32;
+}
 
 -- bit 1 is set, and no flag outside the model is
 pub record AreModelled (flags : ℕ) : Type 0 where

@@ -39,7 +39,8 @@ pub fn modelled_flags()
     ensures arithmetic { (op : AluOp) (w : Width) (x y flags : ℕ) → AreModelled flags
         → AreModelled (alu_flags op w x y flags) }
     ensures bit_test { (i x flags : ℕ) → AreModelled flags → AreModelled (bit_flags i x flags) }
-    ensures set { (mask flags : ℕ) → Has model_flags mask → AreModelled flags → AreModelled (with_set flags mask) }
+    ensures set { (mask flags : ℕ) → Has model_flags mask → AreModelled flags
+        → AreModelled (with_set flags mask) }
     ensures cleared { (mask flags : ℕ) → mask < 2 ^ 64 → bit_at mask 1 ≡ 0 → AreModelled flags
         → AreModelled (with_clear flags mask) }
     ensures loaded { (n : ℕ) → AreModelled (loaded loadable n) }

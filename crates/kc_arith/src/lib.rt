@@ -8,6 +8,6 @@ mod operations;
 mod rows;
 
 pub use flags::{conditions, flag_changes, modelled_flags};
-pub use masks::{flags_replaced, scaled_words, widths};
+pub use masks::{flags_replaced, halves, widths, words};
 pub use operations::{arithmetic, bit_tests};
 pub use rows::{arithmetic_rows, branch_rows, flag_rows, operands};

@@ -36,5 +36,6 @@ pub fn bit_tests()
     ensures set { (w : Width) (a : KnownBits) (x i : ℕ) → i < bits_of w → HasBits w a x
         → CoversOperand w (bits_or (bits_cut (bits_of w) a) (all_of (2 ^ i))) (bit_or x (2 ^ i)) }
     ensures reset { (w : Width) (a : KnownBits) (x i : ℕ) → HasBits w a x
-        → CoversOperand w (bits_and (bits_cut (bits_of w) a) (all_of (flipped (2 ^ i)))) (bit_and x (bit_not w64 (2 ^ i))) }
+        → CoversOperand w (bits_and (bits_cut (bits_of w) a) (all_of (flipped (2 ^ i))))
+            (bit_and x (bit_not w64 (2 ^ i))) }
 {}
