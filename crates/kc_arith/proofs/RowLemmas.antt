@@ -1,11 +1,11 @@
 -- The rows of arithmetic, of bit tests, of branches and of the flag instructions: what is known after each covers what
 -- it leaves. Flags are covered by the laws on flags, results by those on results, and both go into the processor by one
 -- lemma for all operations. A sum or difference with a value relative to the base is the one premise on moves.
-use Rattle.std.proofs.Common.{◌≡◌, ℕ, zero, suc, ◌+◌, ◌%◌, ◌^◌, ◌<◌, Bool, true, false, ◌&&◌, ℤ, pos, negsuc, neg_ℤ, List, [], ◌++◌, length, get_or, Option, Some, None, bit_and, bit_or, refl, sym, ap, ◌∙◌, subst, inl, inr, arith}
-use Rattle.std.specs.Prelude.{if◌then◌else◌, IfSome, slice_index, slice_set}
+use Rattle.std.proofs.Common.{◌≡◌, ℕ, zero, suc, ◌+◌, ◌%◌, ◌^◌, ◌<◌, Bool, true, false, ◌&&◌, ℤ, pos, negsuc, neg_ℤ, List, [], ◌++◌, get_or, Option, Some, None, bit_and, bit_or, refl, sym, ap, ◌∙◌, subst, inl, inr, arith}
+use Rattle.std.specs.Prelude.{if◌then◌else◌, FitsSigned, IfSome, slice_index, slice_set}
 use Rattle.std.proofs.lemmas.Bool.{false≢true, cases_eq, and_parts, eqb-true}
-use Rattle.std.proofs.lemmas.Int.{of_z-to_z}
-use Rattle.std.proofs.lemmas.List.{get_or-set_same, get_or-set_other}
+use Rattle.std.proofs.lemmas.Int.{ints, of_z-to_z}
+use Rattle.std.proofs.lemmas.List.{length-set, get_or-set_same, get_or-set_other}
 use Rattle.std.proofs.lemmas.Nat.{pow_pos, mod_below}
 use Rattle.std.specs.Int.{w64, bit_at, cast_unsigned, cast_signed, bit_not}
 use Rattle.kc_words.specs.Flags.{bits_of, cut, difference}
@@ -48,7 +48,7 @@ use Rattle.kc_exec.specs.RFlags.{if_mask, df_mask, ac_mask, loadable, loaded, ho
 use Rattle.kc_exec.specs.Register.{register, rsp}
 use Rattle.kc_exec.specs.declared.access.Access.{Access}
 use Rattle.kc_arith.specs.Covers.{Covers, CoversOperand, SamePlaces, StandsAt, AreModelled}
-use Rattle.kc_arith.specs.Rows.{FileStands, Finds, IsWritable, OperandStands, MovesStand, IsMovable, ResultStands, LeadsTo, CoversChange}
+use Rattle.kc_arith.specs.Rows.{FileStands, Finds, IsWritable, OperandStands, MovesStand, IsMove, IsMovable, ResultStands, LeadsTo, CoversChange}
 use Rattle.kc_arith.proofs.WidthLemmas.{below_word, cut_fits, bits_represent, value_stands, width_represents, put_represents}
 use Rattle.kc_arith.proofs.ResultLemmas.{outcome}
 use Rattle.kc_arith.proofs.ArithmeticLemmas.{single_is, operation_covers, result_covers, self_result, self_flags_after}
@@ -63,45 +63,61 @@ module _ (env : ValueEnv) (known : AbsMoment) (m : Moment) (finds : Finds env kn
   flags_file : (b : KnownBits) (f : ℕ) → Covers b f
       → FileStands env known.cpu.regs (bits_value known.d b) m.cpu.regs f
   flags_file b f c = record {
+    known_count = finds.file.known_count;
+    count = finds.file.count;
+    words = finds.file.words;
     registers = finds.file.registers;
+    flags_fit = c.fits;
     rflags = bits_represent known.d env b f finds.places c;
   }
 
   -- one register
   put_file : (values : List AbsValue) (fv : AbsValue) (regs : List ℕ) (f : ℕ) (r : Reg) (v : AbsValue) (n : ℕ)
-      → length values ≡ 16 → length regs ≡ 16 → r.0 < 16 → Represents v env n → FileStands env values fv regs f
+      → r.0 < 16 → n < 2 ^ 64 → Represents v env n → FileStands env values fv regs f
       → FileStands env (slice_set values r.0 v) fv (slice_set regs r.0 n) f
-  put_file values fv regs f r v n known_count count fits h file = record {
+  put_file values fv regs f r v n few fits h file = record {
+    known_count = length-set values r.0 v ∙ file.known_count;
+    count = length-set regs r.0 n ∙ file.count;
+    words = λ i k. elim (cases_eq i r.0) [
+      | inl e ↦ subst (λ (w : ℕ). w < 2 ^ 64) (sym (number i e)) fits
+      | inr other ↦ subst (λ (w : ℕ). w < 2 ^ 64) (sym (other_number i other)) (file.words i k)
+    ];
     registers = λ i k. elim (cases_eq i r.0) [
       | inl e ↦
-          let value : get_or (slice_set values r.0 v) r.0 value_top ≡ v =
-          get_or-set_same values r.0 v value_top (omega (arith, known_count, fits)) in
-          let number : slice_index (slice_set regs r.0 n) r.0 ≡ n =
-          get_or-set_same regs r.0 n 0 (omega (arith, count, fits)) in
-          let here : Represents (get_or (slice_set values r.0 v) r.0 value_top) env
-          (slice_index (slice_set regs r.0 n) r.0) =
-          subst (λ (u : AbsValue). Represents u env (slice_index (slice_set regs r.0 n) r.0)) (sym value)
-          (subst (Represents v env) (sym number) h) in
-          subst (λ (j : ℕ). Represents (get_or (slice_set values r.0 v) j value_top) env
-          (slice_index (slice_set regs r.0 n) j)) (sym e) here
-      | inr ne ↦
-          let value : get_or (slice_set values r.0 v) i value_top ≡ get_or values i value_top =
-          get_or-set_other values r.0 i v value_top ne in
-          let number : slice_index (slice_set regs r.0 n) i ≡ slice_index regs i =
-          get_or-set_other regs r.0 i n 0 ne in
-          subst (λ (u : AbsValue). Represents u env (slice_index (slice_set regs r.0 n) i)) (sym value)
-          (subst (Represents (get_or values i value_top) env) (sym number) (file.registers i k))
+          subst (λ (u : AbsValue). Represents u env (slice_index (slice_set regs r.0 n) i)) (sym (value i e))
+          (subst (Represents v env) (sym (number i e)) h)
+      | inr other ↦
+          subst (λ (u : AbsValue). Represents u env (slice_index (slice_set regs r.0 n) i)) (sym (other_value i other))
+          (subst (Represents (get_or values i value_top) env) (sym (other_number i other)) (file.registers i k))
     ];
+    flags_fit = file.flags_fit;
     rflags = file.rflags;
   }
+    where
+      value : (i : ℕ) → i ≡ r.0 → get_or (slice_set values r.0 v) i value_top ≡ v
+      value i e =
+          ap (λ (j : ℕ). get_or (slice_set values r.0 v) j value_top) e
+          ∙ get_or-set_same values r.0 v value_top (omega (arith, file.known_count, few))
+
+      number : (i : ℕ) → i ≡ r.0 → slice_index (slice_set regs r.0 n) i ≡ n
+      number i e =
+          ap (λ (j : ℕ). slice_index (slice_set regs r.0 n) j) e
+          ∙ get_or-set_same regs r.0 n 0 (omega (arith, file.count, few))
+
+      other_value : (i : ℕ) → (i ≡ r.0 → ⊥) → get_or (slice_set values r.0 v) i value_top ≡ get_or values i value_top
+      other_value i other = get_or-set_other values r.0 i v value_top other
+
+      other_number : (i : ℕ) → (i ≡ r.0 → ⊥) → slice_index (slice_set regs r.0 n) i ≡ slice_index regs i
+      other_number i other = get_or-set_other regs r.0 i n 0 other
 
   -- flags and a result, or flags alone
   operated_covers : (w : Width) (dest : Place) (reads : List Access) (b : KnownBits) (f : ℕ) (v : Option AbsValue)
       (r : Option ℕ) → IsWritable dest → Covers b f → (AreModelled m.cpu.flags → AreModelled f)
       → ResultStands env w v r
-      → CoversChange env m (known_operated known w dest b v) (operated m w dest reads f r)
+      → CoversChange env known m (known_operated known w dest b v) (operated m w dest reads f r)
   operated_covers w dest reads b f None None ok c modelled h = record {
     file = flags_file b f c;
+    rest = record { gs = refl; map = refl; known_latches = refl; cpu = refl; latch = refl; end = refl };
     store = tt;
     next = refl;
     shadow = refl;
@@ -109,9 +125,10 @@ module _ (env : ValueEnv) (known : AbsMoment) (m : Moment) (finds : Finds env kn
   }
   operated_covers w (place.Reg d) reads b f (Some v) (Some n) ok c modelled h = record {
     file =
-        put_file known.cpu.regs (bits_value known.d b) m.cpu.regs f d (at_width known.d w v) n finds.known_count
-        finds.count ok
+        put_file known.cpu.regs (bits_value known.d b) m.cpu.regs f d (at_width known.d w v) n ok
+        (below_word w n h.0)
         (put_represents known.d env w v n finds.places (value_stands env w v n h.0 h.1)) (flags_file b f c);
+    rest = record { gs = refl; map = refl; known_latches = refl; cpu = refl; latch = refl; end = refl };
     store = tt;
     next = refl;
     shadow = refl;
@@ -119,6 +136,7 @@ module _ (env : ValueEnv) (known : AbsMoment) (m : Moment) (finds : Finds env kn
   }
   operated_covers w (place.Mem a) reads b f (Some v) (Some n) ok c modelled h = record {
     file = flags_file b f c;
+    rest = record { gs = refl; map = refl; known_latches = refl; cpu = refl; latch = refl; end = refl };
     store = record { size = refl; gs = refl; value = value_stands env w v n h.0 h.1 };
     next = refl;
     shadow = refl;
@@ -148,6 +166,16 @@ minus_word x (suc n) hn =
     minus_signed x (cast_signed w64 (suc n)) (omega (arith, same)) (omega (arith, same, hn))
     ∙ ap (difference 64 x) same
 
+-- both are moves
+signed_fits : (n : ℕ) → n < 2 ^ 64 → FitsSigned w64 (cast_signed w64 n)
+signed_fits n hn = omega (arith, ints, hn)
+
+minus_moves : (n : ℕ) → n < 2 ^ 64 → IsMove (neg_ℤ (cast_signed w64 n))
+minus_moves n hn = elim (cases_eq n (2 ^ 63)) [
+  | inl e ↦ inr (ap (λ (k : ℕ). neg_ℤ (cast_signed w64 k)) e)
+  | inr other ↦ inl (omega (arith, ints, hn, other, signed_fits n hn, of_z-to_z w64 n hn))
+]
+
 module _ (env : ValueEnv) (known : AbsMoment) (places : SamePlaces known.d env) where
   -- by the test whether the base moves
   by_move : (test : Bool) (op : AluOp) (v : AbsValue) (number : Option ℕ) (b : KnownBits) (r : ℕ)
@@ -163,12 +191,12 @@ module _ (env : ValueEnv) (known : AbsMoment) (places : SamePlaces known.d env) 
       → Represents (moved_base known op v n b) env (outcome op Quad x n)
   moved_stands alu.Add v x n b hn moves h =
       subst (λ (k : ℕ). Represents (moved_base known alu.Add v n b) env (word (x + k))) (of_z-to_z w64 n hn)
-      (moves (cast_signed w64 n))
+      (moves (cast_signed w64 n) (inl (signed_fits n hn)))
   moved_stands alu.Or v x n b hn moves h = h
   moved_stands alu.And v x n b hn moves h = h
   moved_stands alu.Sub v x n b hn moves h =
       subst (Represents (moved_base known alu.Sub v n b) env) (minus_word x n hn)
-      (moves (neg_ℤ (cast_signed w64 n)))
+      (moves (neg_ℤ (cast_signed w64 n)) (minus_moves n hn))
   moved_stands alu.Xor v x n b hn moves h = h
   moved_stands alu.Cmp v x n b hn moves h = h
 
@@ -268,7 +296,7 @@ branch_leads Any false next target h = inl refl
 module _ (env : ValueEnv) (known : AbsMoment) (m : Moment) (finds : Finds env known m) where
   change_covers : (op : AluOp) (w : Width) (dest : Place) (reads : List Access) (v u : AbsValue) (x y : ℕ)
       → IsWritable dest → StandsAt env w v x → StandsAt env w u y → IsValid u.bits → IsMovable env known w v x
-      → CoversChange env m (alu_change known op w dest v u)
+      → CoversChange env known m (alu_change known op w dest v u)
       (operated m w dest reads (alu_flags op w x y m.cpu.flags) (alu_result op w x y))
   change_covers op w dest reads v u x y ok sv su valid movable =
       operated_covers env known m finds w dest reads
@@ -286,7 +314,7 @@ module _ (env : ValueEnv) (known : AbsMoment) (m : Moment) (finds : Finds env kn
   -- an operation of a register with itself, which cancels it
   self_covers : (op : AluOp) (w : Width) (dest : Place) (reads : List Access) (x y : ℕ) → IsWritable dest
       → cancels op ≡ true → y ≡ x
-      → CoversChange env m (alu_change known op w dest (number_value known.d 0) (number_value known.d 0))
+      → CoversChange env known m (alu_change known op w dest (number_value known.d 0) (number_value known.d 0))
       (operated m w dest reads (alu_flags op w x y m.cpu.flags) (alu_result op w x y))
   self_covers op w dest reads x y ok e same =
       let change : AbsChange = alu_change known op w dest (number_value known.d 0) (number_value known.d 0) in
@@ -294,24 +322,24 @@ module _ (env : ValueEnv) (known : AbsMoment) (m : Moment) (finds : Finds env kn
       sym (self_flags_after op w x m.cpu.flags e) ∙ ap (λ (k : ℕ). alu_flags op w x k m.cpu.flags) (sym same) in
       let result : alu_result op w 0 0 ≡ alu_result op w x y =
       self_result op w 0 e ∙ sym (self_result op w x e) ∙ ap (alu_result op w x) (sym same) in
-      let zero : CoversChange env m change
+      let zero : CoversChange env known m change
       (operated m w dest reads (alu_flags op w 0 0 m.cpu.flags) (alu_result op w 0 0)) =
       change_covers op w dest reads (number_value known.d 0) (number_value known.d 0) 0 0 ok (zero_stands w)
       (zero_stands w) (all_covers 0 (omega arith)).valid (λ based. absurd (false≢true based)) in
-      subst (λ (r : Option ℕ). CoversChange env m change
+      subst (λ (r : Option ℕ). CoversChange env known m change
       (operated m w dest reads (alu_flags op w x y m.cpu.flags) r)) result
-      (subst (λ (f : ℕ). CoversChange env m change (operated m w dest reads f (alu_result op w 0 0))) flags zero)
+      (subst (λ (f : ℕ). CoversChange env known m change (operated m w dest reads f (alu_result op w 0 0))) flags zero)
 
   pub alu_row : (op : AluOp) (w : Width) (dest : Place) (src : Source) → IsWritable dest
       → OperandStands env known m w (source_of dest) → OperandStands env known m w src
       → IsValid (known_operand known w src).bits
       → IsMovable env known w (known_destination known w dest) (destination m w dest)
-      → CoversChange env m (abs_row known (Alu op w dest src)) (row m (Alu op w dest src))
+      → CoversChange env known m (abs_row known (Alu op w dest src)) (row m (Alu op w dest src))
   unfolding abs_row row
   alu_row op w dest src ok sd ss valid movable = by_same (cancels op && is_same_reg dest src) refl
     where
       by_same : (t : Bool) → (cancels op && is_same_reg dest src) ≡ t
-          → CoversChange env m (if◌then◌else◌ {A = AbsChange} t
+          → CoversChange env known m (if◌then◌else◌ {A = AbsChange} t
           (alu_change known op w dest (number_value known.d 0) (number_value known.d 0))
           (alu_change known op w dest (known_destination known w dest) (known_operand known w src)))
           (operated m w dest (reads_of m w (source_of dest) ++ reads_of m w src)
@@ -328,7 +356,7 @@ module _ (env : ValueEnv) (known : AbsMoment) (m : Moment) (finds : Finds env kn
 
   pub test_row : (w : Width) (dest : Place) (src : Source) → IsWritable dest
       → OperandStands env known m w (source_of dest) → OperandStands env known m w src
-      → CoversChange env m (abs_row known (Test w dest src)) (row m (Test w dest src))
+      → CoversChange env known m (abs_row known (Test w dest src)) (row m (Test w dest src))
   unfolding abs_row row
   test_row w dest src ok sd ss =
       operated_covers env known m finds w dest (reads_of m w (source_of dest) ++ reads_of m w src)
@@ -342,7 +370,7 @@ module _ (env : ValueEnv) (known : AbsMoment) (m : Moment) (finds : Finds env kn
 
   pub bit_row : (op : BitOp) (w : Width) (dest : Place) (number : ℕ) → IsWritable dest
       → OperandStands env known m w (source_of dest)
-      → CoversChange env m (abs_row known (Bit op w dest number)) (row m (Bit op w dest number))
+      → CoversChange env known m (abs_row known (Bit op w dest number)) (row m (Bit op w dest number))
   unfolding abs_row row
   bit_row op w dest number ok sd =
       operated_covers env known m finds w dest (reads_of m w (source_of dest))
@@ -364,16 +392,17 @@ module _ (env : ValueEnv) (known : AbsMoment) (m : Moment) (finds : Finds env kn
 
   -- nothing but the program's place
   goes_covers : (succ : Succ) (target : ℕ) → LeadsTo m.next succ target
-      → CoversChange env m (known_goes known succ known.cpu None) (goes m target m.cpu [] None)
+      → CoversChange env known m (known_goes known succ known.cpu None) (goes m target m.cpu [] None)
   goes_covers succ target leads = record {
     file = finds.file;
+    rest = record { gs = refl; map = refl; known_latches = refl; cpu = refl; latch = refl; end = refl };
     store = tt;
     next = leads;
     shadow = refl;
     modelled = λ f. f;
   }
 
-  pub jcc_row : (code target : ℕ) → CoversChange env m (abs_row known (Jcc code target)) (row m (Jcc code target))
+  pub jcc_row : (code target : ℕ) → CoversChange env known m (abs_row known (Jcc code target)) (row m (Jcc code target))
   unfolding abs_row row
   jcc_row code target =
       goes_covers (branch (known_holds code known.cpu.flags.bits) target)
@@ -381,16 +410,17 @@ module _ (env : ValueEnv) (known : AbsMoment) (m : Moment) (finds : Finds env kn
       (branch_leads (known_holds code known.cpu.flags.bits) (holds code m.cpu.flags) m.next target
       (holds_stands known.cpu.flags.bits m.cpu.flags finds.file.rflags.bits code))
 
-  pub jmp_row : (target : ℕ) → CoversChange env m (abs_row known (Jmp target)) (row m (Jmp target))
+  pub jmp_row : (target : ℕ) → CoversChange env known m (abs_row known (Jmp target)) (row m (Jmp target))
   unfolding abs_row row
   jmp_row target = goes_covers (Jumps target) target refl
 
   -- new flags alone
   falls_covers : (b : KnownBits) (f : ℕ) → Covers b f → (AreModelled m.cpu.flags → AreModelled f)
-      → CoversChange env m (known_falls known (with_flags known b known.cpu) None)
+      → CoversChange env known m (known_falls known (with_flags known b known.cpu) None)
       (falls m (record m.cpu { flags = f }) [] None)
   falls_covers b f c modelled = record {
     file = flags_file env known m finds b f c;
+    rest = record { gs = refl; map = refl; known_latches = refl; cpu = refl; latch = refl; end = refl };
     store = tt;
     next = refl;
     shadow = refl;
@@ -398,7 +428,7 @@ module _ (env : ValueEnv) (known : AbsMoment) (m : Moment) (finds : Finds env kn
   }
 
   cleared_covers : (mask : ℕ) → mask < 2 ^ 64 → bit_at mask 1 ≡ 0
-      → CoversChange env m (known_falls known (with_flags known (clear_flag mask known.cpu.flags.bits) known.cpu) None)
+      → CoversChange env known m (known_falls known (with_flags known (clear_flag mask known.cpu.flags.bits) known.cpu) None)
       (falls m (record m.cpu { flags = with_clear m.cpu.flags mask }) [] None)
   cleared_covers mask fits e =
       falls_covers (clear_flag mask known.cpu.flags.bits) (with_clear m.cpu.flags mask)
@@ -406,35 +436,36 @@ module _ (env : ValueEnv) (known : AbsMoment) (m : Moment) (finds : Finds env kn
       (clear_modelled mask m.cpu.flags fits e)
 
   set_covers_change : (mask : ℕ) → mask < 2 ^ 64 → Has model_flags mask
-      → CoversChange env m (known_falls known (with_flags known (set_flag mask known.cpu.flags.bits) known.cpu) None)
+      → CoversChange env known m (known_falls known (with_flags known (set_flag mask known.cpu.flags.bits) known.cpu) None)
       (falls m (record m.cpu { flags = with_set m.cpu.flags mask }) [] None)
   set_covers_change mask fits part =
       falls_covers (set_flag mask known.cpu.flags.bits) (with_set m.cpu.flags mask)
-      (set_stands known.cpu.flags.bits mask m.cpu.flags fits finds.flags_fit finds.file.rflags.bits)
+      (set_stands known.cpu.flags.bits mask m.cpu.flags fits finds.file.flags_fit finds.file.rflags.bits)
       (set_modelled mask m.cpu.flags part)
 
-  pub cli_row : CoversChange env m (abs_row known Cli) (row m Cli)
+  pub cli_row : CoversChange env known m (abs_row known Cli) (row m Cli)
   unfolding abs_row row
   cli_row = cleared_covers if_mask (omega arith) refl
 
-  pub cld_row : CoversChange env m (abs_row known Cld) (row m Cld)
+  pub cld_row : CoversChange env known m (abs_row known Cld) (row m Cld)
   unfolding abs_row row
   cld_row = cleared_covers df_mask (omega arith) refl
 
-  pub clac_row : CoversChange env m (abs_row known Clac) (row m Clac)
+  pub clac_row : CoversChange env known m (abs_row known Clac) (row m Clac)
   unfolding abs_row row
   clac_row = cleared_covers ac_mask (omega arith) refl
 
-  pub stac_row : CoversChange env m (abs_row known Stac) (row m Stac)
+  pub stac_row : CoversChange env known m (abs_row known Stac) (row m Stac)
   unfolding abs_row row
   stac_row = set_covers_change ac_mask (omega arith) refl
 
-  pub sti_row : CoversChange env m (abs_row known Sti) (row m Sti)
+  pub sti_row : CoversChange env known m (abs_row known Sti) (row m Sti)
   unfolding abs_row row
   sti_row =
       let set = set_covers_change if_mask (omega arith) refl in
       record {
         file = set.file;
+        rest = record { gs = refl; map = refl; known_latches = refl; cpu = refl; latch = refl; end = refl };
         store = set.store;
         next = set.next;
         shadow = gap_stands known.cpu.flags.bits m.cpu.flags finds.file.rflags.bits;
@@ -443,17 +474,19 @@ module _ (env : ValueEnv) (known : AbsMoment) (m : Moment) (finds : Finds env kn
 
   pub popfq_row : MovesStand env known (known_register known.cpu known_rsp) (register m.cpu rsp)
       → Represents (known_stack_word known) env (stack_word m 0)
-      → CoversChange env m (abs_row known Popfq) (row m Popfq)
+      → CoversChange env known m (abs_row known Popfq) (row m Popfq)
   unfolding abs_row row
   popfq_row moves word_stands =
       let b : KnownBits = loaded_flags (known_stack_word known).bits in
       let f : ℕ = loaded loadable (stack_word m 0) in
+      let up : FitsSigned w64 (pos 8) = omega (arith, ints) in
       let c : Covers b f = loaded_stands (known_stack_word known).bits (stack_word m 0) word_stands.bits in
       record {
         file =
             put_file env known m finds known.cpu.regs (bits_value known.d b) m.cpu.regs f known_rsp
             (shifted known.d known.key (known_register known.cpu known_rsp) (pos 8)) (plus (register m.cpu rsp) 8)
-            finds.known_count finds.count (omega arith) (moves (pos 8)) (flags_file env known m finds b f c);
+            (omega arith) (omega arith) (moves (pos 8) (inl up)) (flags_file env known m finds b f c);
+        rest = record { gs = refl; map = refl; known_latches = refl; cpu = refl; latch = refl; end = refl };
         store = tt;
         next = refl;
         shadow = refl;
@@ -462,13 +495,12 @@ module _ (env : ValueEnv) (known : AbsMoment) (m : Moment) (finds : Finds env kn
 
   -- ---- operands that aren't in memory
 
-  pub register_stands : (w : Width) (r : Reg) → r.0 < 16 → slice_index m.cpu.regs r.0 < 2 ^ 64
-      → OperandStands env known m w (source.Reg r)
-  register_stands w r ok fits =
+  pub register_stands : (w : Width) (r : Reg) → r.0 < 16 → OperandStands env known m w (source.Reg r)
+  register_stands w r ok =
       value_stands env w (at_width known.d w (known_register known.cpu r)) (cut w (register m.cpu r))
       (cut_fits w (register m.cpu r))
-      (width_represents known.d env w (known_register known.cpu r) (register m.cpu r) finds.places fits
-      (finds.file.registers r.0 ok))
+      (width_represents known.d env w (known_register known.cpu r) (register m.cpu r) finds.places
+      (finds.file.words r.0 ok) (finds.file.registers r.0 ok))
 
   pub immediate_stands : (w : Width) (z : ℤ) → OperandStands env known m w (source.Imm z)
   immediate_stands w z =

@@ -37,5 +37,5 @@ pub fn bit_tests()
         → CoversOperand w (bits_or (bits_cut (bits_of w) a) (all_of (2 ^ i))) (bit_or x (2 ^ i)) }
     ensures reset { (w : Width) (a : KnownBits) (x i : ℕ) → HasBits w a x
         → CoversOperand w (bits_and (bits_cut (bits_of w) a) (all_of (flipped (2 ^ i))))
-            (bit_and x (bit_not w64 (2 ^ i))) }
+        (bit_and x (bit_not w64 (2 ^ i))) }
 {}
