@@ -293,8 +293,10 @@ module _ (op : AluOp) (w : Width) (a b flags : KnownBits) (x y f : ℕ) (ca : Co
       subst (λ (k : KnownBits). Covers k (replaced (defined_by op) (flags_of op w x y) f))
       (sym (exact_alu-is op w x y flags))
       (exact_covers flags (defined_by op) (flags_of op w x y) f (defines op).fits spoken.fits (defines op).forgets s) in
-      subst (λ (k : ℕ). Covers (exact_alu op (bits_of w) i k flags) (replaced (defined_by op) (flags_of op w x y) f)) ej
-      (subst (λ (k : ℕ). Covers (exact_alu op (bits_of w) k y flags) (replaced (defined_by op) (flags_of op w x y) f)) ei
+      subst
+      (λ (k : ℕ). Covers (exact_alu op (bits_of w) i k flags) (replaced (defined_by op) (flags_of op w x y) f)) ej
+      (subst
+      (λ (k : ℕ). Covers (exact_alu op (bits_of w) k y flags) (replaced (defined_by op) (flags_of op w x y) f)) ei
       here)
 
   by_known : (first second : Option ℕ) → ((i : ℕ) → first ≡ Some i → x ≡ i) → ((j : ℕ) → second ≡ Some j → y ≡ j)

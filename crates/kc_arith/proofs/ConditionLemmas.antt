@@ -32,11 +32,15 @@ or_stands Any Any p q h k = tt
 differ_stands : (s t : Tri) (m n : ℕ) → m < 2 → n < 2 → TriStands s (m == 1) → TriStands t (n == 1)
     → TriStands (tri_differ s t) (not (m == n))
 differ_stands Any t m n hm hn h k = tt
-differ_stands No No m n hm hn h k = not_from_true (m == n) (eq-eqb m n (omega (arith, hm, hn, eqb-false m 1 h, eqb-false n 1 k)))
-differ_stands No Yes m n hm hn h k = not_from_false (m == n) (ne_eqb m n (λ e. eqb-false m 1 h (e ∙ eqb-true n 1 k)))
+differ_stands No No m n hm hn h k =
+    not_from_true (m == n) (eq-eqb m n (omega (arith, hm, hn, eqb-false m 1 h, eqb-false n 1 k)))
+differ_stands No Yes m n hm hn h k =
+    not_from_false (m == n) (ne_eqb m n (λ e. eqb-false m 1 h (e ∙ eqb-true n 1 k)))
 differ_stands No Any m n hm hn h k = tt
-differ_stands Yes No m n hm hn h k = not_from_false (m == n) (ne_eqb m n (λ e. eqb-false n 1 k (sym e ∙ eqb-true m 1 h)))
-differ_stands Yes Yes m n hm hn h k = not_from_true (m == n) (eq-eqb m n (eqb-true m 1 h ∙ sym (eqb-true n 1 k)))
+differ_stands Yes No m n hm hn h k =
+    not_from_false (m == n) (ne_eqb m n (λ e. eqb-false n 1 k (sym e ∙ eqb-true m 1 h)))
+differ_stands Yes Yes m n hm hn h k =
+    not_from_true (m == n) (eq-eqb m n (eqb-true m 1 h ∙ sym (eqb-true n 1 k)))
 differ_stands Yes Any m n hm hn h k = tt
 
 -- ---- codes

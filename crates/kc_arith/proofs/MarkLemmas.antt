@@ -69,7 +69,7 @@ kept_bit kept forget i fits = elim (cases_lt i 64) [
   | inr k ↦ inr (bit_at_and kept (flipped forget) i ∙ omega (arith, bit_at_above (flipped forget) 64 i (omega arith) k))
 ]
 
--- a number stays known where it agrees with the old flags outside of what is forgotten, and where what is given is right
+-- a number is known where it agrees with the old flags outside of what is forgotten, and what is given of it is right
 pub marked_stands : (b : KnownBits) (forget ones zeros flags n : ℕ) → forget < 2 ^ 64 → StandsFor b flags
     → ((i : ℕ) → i < 64 → bit_at forget i ≡ 0 → bit_at n i ≡ bit_at flags i)
     → ((i : ℕ) → bit_at ones i ≤ bit_at n i) → ((i : ℕ) → bit_at zeros i + bit_at n i ≤ 1)

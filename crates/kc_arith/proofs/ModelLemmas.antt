@@ -1,6 +1,6 @@
--- Flags that one instruction sets, clears or loads, and that the flags of kernel code stay those of the model with bit 1.
--- By places: a mask's bits at a place are computed where the place is written out, and else one mask is part of another
--- one or apart from it, which omega reads as an order between two bits.
+-- Flags that one instruction sets, clears or loads; and flags of the model with bit 1 stay such. By places: a mask's
+-- bits at a place are computed where the place is written out, and else one mask is part of another one or apart from
+-- it, which omega reads as an order between two bits.
 use Rattle.std.proofs.Common.{◌≡◌, ℕ, ◌+◌, ◌^◌, ◌<◌, ◌≤◌, min, max, Bool, true, false, cond, bit_and, bit_or, refl, sym, ap, ◌∙◌, subst, inl, inr, arith}
 use Rattle.std.proofs.lemmas.Bool.{cases_lt}
 use Rattle.std.proofs.lemmas.Nat.{and_le_r, or_lt}

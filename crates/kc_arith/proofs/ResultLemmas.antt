@@ -49,7 +49,8 @@ module _ (a b : KnownBits) (x y : ℕ) (ca : Covers a x) (cb : Covers b y) where
   sum_covers : (w : Width) → Covers (bits_cut (bits_of w) (bits_add a b)) (cut w (x + y))
   sum_covers w =
       let low : cut w (word (x + y)) ≡ cut w (x + y) = mod_of_mod 64 (bits_of w) (x + y) (bits_in_range w).1 in
-      subst (Covers (bits_cut (bits_of w) (bits_add a b))) low (cut_stands w (bits_add a b) (word (x + y)) word_sum_covers.stands)
+      subst (Covers (bits_cut (bits_of w) (bits_add a b))) low
+      (cut_stands w (bits_add a b) (word (x + y)) word_sum_covers.stands)
 
   difference_covers : (w : Width) → Covers (bits_cut (bits_of w) (bits_sub a b)) (difference (bits_of w) x y)
   difference_covers w =

@@ -237,22 +237,25 @@ module _ (env : ValueEnv) (known : AbsMoment) (places : SamePlaces known.d env) 
   result_stands : (op : AluOp) (w : Width) (v u : AbsValue) (x y : ℕ) → StandsAt env w v x → StandsAt env w u y
       → IsValid u.bits → IsMovable env known w v x
       → ResultStands env w (known_result known op w v u) (alu_result op w x y)
-  result_stands op w v u x y sv su valid movable = by_op op (λ o c.
-      (c.fits, value_represents o w v u x y sv su valid movable c)) (λ o. result_covers o w v.bits u.bits x y sv.bits su.bits)
+  result_stands op w v u x y sv su valid movable = by_op op
     where
-      by_op : (op : AluOp)
-          → ((o : AluOp)
+      stands : (o : AluOp)
           → CoversOperand w (alu_bits o (bits_of w) (bits_cut (bits_of w) v.bits) (bits_cut (bits_of w) u.bits))
-          (outcome o w x y) → (outcome o w x y < 2 ^ bits_of w) × Represents (alu_value known o w v u) env (outcome o w x y))
-          → ((o : AluOp) → IfSome (alu_result o w x y)
-          (CoversOperand w (alu_bits o (bits_of w) (bits_cut (bits_of w) v.bits) (bits_cut (bits_of w) u.bits))))
-          → ResultStands env w (known_result known op w v u) (alu_result op w x y)
-      by_op alu.Add stands covers = stands alu.Add (covers alu.Add)
-      by_op alu.Or stands covers = stands alu.Or (covers alu.Or)
-      by_op alu.And stands covers = stands alu.And (covers alu.And)
-      by_op alu.Sub stands covers = stands alu.Sub (covers alu.Sub)
-      by_op alu.Xor stands covers = stands alu.Xor (covers alu.Xor)
-      by_op alu.Cmp stands covers = tt
+          (outcome o w x y)
+          → (outcome o w x y < 2 ^ bits_of w) × Represents (alu_value known o w v u) env (outcome o w x y)
+      stands o c = (c.fits, value_represents o w v u x y sv su valid movable c)
+
+      covered : (o : AluOp) → IfSome (alu_result o w x y)
+          (CoversOperand w (alu_bits o (bits_of w) (bits_cut (bits_of w) v.bits) (bits_cut (bits_of w) u.bits)))
+      covered o = result_covers o w v.bits u.bits x y sv.bits su.bits
+
+      by_op : (o : AluOp) → ResultStands env w (known_result known o w v u) (alu_result o w x y)
+      by_op alu.Add = stands alu.Add (covered alu.Add)
+      by_op alu.Or = stands alu.Or (covered alu.Or)
+      by_op alu.And = stands alu.And (covered alu.And)
+      by_op alu.Sub = stands alu.Sub (covered alu.Sub)
+      by_op alu.Xor = stands alu.Xor (covered alu.Xor)
+      by_op alu.Cmp = tt
 
   -- a number as a value
   number_represents : (n : ℕ) → n < 2 ^ 64 → Represents (number_value known.d n) env n
@@ -428,7 +431,8 @@ module _ (env : ValueEnv) (known : AbsMoment) (m : Moment) (finds : Finds env kn
   }
 
   cleared_covers : (mask : ℕ) → mask < 2 ^ 64 → bit_at mask 1 ≡ 0
-      → CoversChange env known m (known_falls known (with_flags known (clear_flag mask known.cpu.flags.bits) known.cpu) None)
+      → CoversChange env known m
+      (known_falls known (with_flags known (clear_flag mask known.cpu.flags.bits) known.cpu) None)
       (falls m (record m.cpu { flags = with_clear m.cpu.flags mask }) [] None)
   cleared_covers mask fits e =
       falls_covers (clear_flag mask known.cpu.flags.bits) (with_clear m.cpu.flags mask)
@@ -436,7 +440,8 @@ module _ (env : ValueEnv) (known : AbsMoment) (m : Moment) (finds : Finds env kn
       (clear_modelled mask m.cpu.flags fits e)
 
   set_covers_change : (mask : ℕ) → mask < 2 ^ 64 → Has model_flags mask
-      → CoversChange env known m (known_falls known (with_flags known (set_flag mask known.cpu.flags.bits) known.cpu) None)
+      → CoversChange env known m
+      (known_falls known (with_flags known (set_flag mask known.cpu.flags.bits) known.cpu) None)
       (falls m (record m.cpu { flags = with_set m.cpu.flags mask }) [] None)
   set_covers_change mask fits part =
       falls_covers (set_flag mask known.cpu.flags.bits) (with_set m.cpu.flags mask)
