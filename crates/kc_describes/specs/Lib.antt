@@ -1,0 +1,10 @@
+pub mod Widths
+pub mod Spaces
+pub mod Places
+pub mod Chain
+pub mod Fits
+pub mod Row
+pub mod Inside
+pub mod Describes
+pub mod User
+pub mod Returned
