@@ -1,3 +1,4 @@
 pub mod OffsetLemmas
 pub mod MemoryLemmas
 pub mod ValueLemmas
+pub mod LocationLemmas
