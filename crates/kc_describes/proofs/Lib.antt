@@ -2,3 +2,5 @@ pub mod OffsetLemmas
 pub mod MemoryLemmas
 pub mod ValueLemmas
 pub mod LocationLemmas
+pub mod PermissionLemmas
+pub mod LiveLemmas
