@@ -4,3 +4,4 @@ pub mod ValueLemmas
 pub mod LocationLemmas
 pub mod PermissionLemmas
 pub mod LiveLemmas
+pub mod SlotLemmas
