@@ -5,3 +5,4 @@ pub mod LocationLemmas
 pub mod PermissionLemmas
 pub mod LiveLemmas
 pub mod SlotLemmas
+pub mod HitLemmas
