@@ -151,7 +151,7 @@ module _ (cfg : Description) (valid : IsValid cfg) (key : Key) (user_gs : ℕ) (
       → meets_word l n (word_of cfg key i) ≡ true
   met l p n i e h = ap (meets_word l n) e ∙ h
 
-  word_fits : (i w : ℕ) → i < slot_count → word_of cfg key i ≡ Some (Number w) → w < 2 ^ 64
+  pub word_fits : (i w : ℕ) → i < slot_count → word_of cfg key i ≡ Some (Number w) → w < 2 ^ 64
   word_fits i w below e = elim (cases_lt i 40) [
     | inl near ↦
         let area = area_word cfg key i (Number w) valid near e in

@@ -6,3 +6,5 @@ pub mod PermissionLemmas
 pub mod LiveLemmas
 pub mod SlotLemmas
 pub mod HitLemmas
+pub mod ChainLemmas
+pub mod StoreLemmas

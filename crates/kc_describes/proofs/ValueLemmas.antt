@@ -41,7 +41,7 @@ place_bound : (o : Option ℕ) → IsPlace o → place_bit o < 17
 place_bound (Some s) h = omega (arith, h)
 place_bound None h = omega arith
 
-nothing_stands : (n : ℕ) → StandsFor nothing_known n
+pub nothing_stands : (n : ℕ) → StandsFor nothing_known n
 nothing_stands n = λ i. (λ e. absurd (omega (arith, e, bit_at-zero i)), λ e. absurd (omega (arith, e, bit_at-zero i)))
 
 narrow : (w : Width) (n : ℕ) → cut w n < 2 ^ 64
