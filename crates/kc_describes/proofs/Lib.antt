@@ -8,3 +8,4 @@ pub mod SlotLemmas
 pub mod HitLemmas
 pub mod ChainLemmas
 pub mod StoreLemmas
+pub mod LoadLemmas

@@ -44,7 +44,7 @@ place_bound None h = omega arith
 pub nothing_stands : (n : ℕ) → StandsFor nothing_known n
 nothing_stands n = λ i. (λ e. absurd (omega (arith, e, bit_at-zero i)), λ e. absurd (omega (arith, e, bit_at-zero i)))
 
-narrow : (w : Width) (n : ℕ) → cut w n < 2 ^ 64
+pub narrow : (w : Width) (n : ℕ) → cut w n < 2 ^ 64
 narrow Byte n = omega arith
 narrow Long n = omega arith
 narrow Quad n = omega arith
