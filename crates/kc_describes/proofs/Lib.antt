@@ -9,3 +9,5 @@ pub mod HitLemmas
 pub mod ChainLemmas
 pub mod StoreLemmas
 pub mod LoadLemmas
+pub mod ValidLemmas
+pub mod ShiftLemmas

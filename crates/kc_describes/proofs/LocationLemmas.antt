@@ -97,7 +97,7 @@ IsPlaced cfg key base (Relative k) = FitsSigned w64 k × IsRelativeKey cfg key b
 abbrev pub IsAt : Description → Key → ℕ → ℕ → Location → Type 0
 IsAt cfg key base n l = IsPlaced cfg key base l × (address_of base l ≡ n)
 
-single_fits : (b : KnownBits) (k : ℕ) → AreBitsValid b → bits_single b ≡ Some k → k < 2 ^ 64
+pub single_fits : (b : KnownBits) (k : ℕ) → AreBitsValid b → bits_single b ≡ Some k → k < 2 ^ 64
 single_fits b k ok e = elim (chosen (unknown b == 0) (Some b.ones) None (Some k) e) [
   | inl h ↦ let same = some_is b.ones k h.1 in omega (arith, same, ok.ones_fit)
   | inr h ↦ absurd cc

@@ -37,7 +37,7 @@ use Rattle.kc_describes.specs.Places.{stack_spans}
 none_held : (n : ℕ) → Holds no_addresses n → ⊥
 none_held n h = omega (arith, h.1)
 
-place_bound : (o : Option ℕ) → IsPlace o → place_bit o < 17
+pub place_bound : (o : Option ℕ) → IsPlace o → place_bit o < 17
 place_bound (Some s) h = omega (arith, h)
 place_bound None h = omega arith
 
