@@ -11,3 +11,5 @@ pub mod StoreLemmas
 pub mod LoadLemmas
 pub mod ValidLemmas
 pub mod ShiftLemmas
+pub mod ScaleLemmas
+pub mod OperandLemmas

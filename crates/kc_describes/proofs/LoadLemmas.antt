@@ -3,7 +3,7 @@
 -- those loaded are 0.
 use Rattle.std.proofs.Common.{◌≡◌, ℕ, zero, suc, ◌+◌, ◌-◌, ◌*◌, ◌/◌, ◌%◌, ◌^◌, ◌<◌, ◌≤◌, ◌==◌, nat_le, inl, inr, Bool, true, false, cond, List, [], ◌∷◌, length, get_or, All, Option, Some, None, bit_and, mod-eq_of_lt, refl, sym, ap, ◌∙◌, subst, arith}
 use Rattle.std.specs.Int.{bit_at}
-use Rattle.std.proofs.lemmas.Bool.{leb-true}
+use Rattle.std.proofs.lemmas.Bool.{leb-true, cond_both}
 use Rattle.std.proofs.lemmas.Nat.{shr-shr, shr_le, and_shr, pow-add}
 use Rattle.std.proofs.lemmas.List.Elements.{All-head, All-tail}
 use Rattle.std.proofs.Math.Nat.{zero-div}
@@ -37,6 +37,7 @@ use Rattle.kc_describes.specs.Places.{address_of, WordStands, SlotsStand}
 use Rattle.kc_describes.specs.Widths.{IsActivation}
 use Rattle.kc_describes.proofs.MemoryLemmas.{read_part}
 use Rattle.kc_describes.proofs.StoreLemmas.{IsFitting, address_fits, distance_is, word_fitting}
+use Rattle.kc_describes.proofs.ValidLemmas.{none_valid, bits_valid}
 use Rattle.kc_describes.proofs.ValueLemmas.{bits_stand, narrow, cut_valid, nothing_stands}
 
 -- ---- bits of a part
@@ -89,6 +90,35 @@ begins size off (Some k) e = elim (chosen (nat_le (k + size) 8) (Some k) None (S
 ]
 begins size off None e = absurd cc
 
+-- what is loaded is a valid value
+module _ (cfg : Description) (valid : IsValid cfg) (key : Key) (l : Location) where
+  cut_part : (w : Width) (b : KnownBits) → AreBitsValid b
+      → IsValidValue (derived (stack_of cfg.regions) (bits_cut (8 * (bits_of w / 8)) b))
+  cut_part w b ok =
+      subst (λ z. IsValidValue (derived (stack_of cfg.regions) (bits_cut z b))) (sym (whole_size w))
+      (bits_valid cfg valid (bits_cut (bits_of w) b) (cut_valid w b ok))
+
+  or_valid : (w : Width) (v rest : AbsValue) (o : Option ℕ) → IsValidValue v → IsValidValue rest
+      → IsValidValue (loaded_or cfg (bits_of w / 8) v rest o)
+  or_valid w v rest (Some off) ok later =
+      let b = bits_cut (8 * (bits_of w / 8)) (bits_from v.bits off) in
+      cond_both (bits_of w / 8 == 8) v (derived (stack_of cfg.regions) b) IsValidValue (λ h. ok)
+      (λ h. cut_part w (bits_from v.bits off) (from_valid v.bits off ok.bits_fit))
+  or_valid w v rest None ok later = later
+
+  walk_valid : (w : Width) (i : ℕ) (vs : List AbsValue) → All IsValidValue vs
+      → IsValidValue (loaded_from cfg key l (bits_of w / 8) i vs)
+  unfolding loaded_from
+  walk_valid w i [] ok = cut_part w nothing_known none_valid
+  walk_valid w i (v ∷ vs) ok =
+      or_valid w v (loaded_from cfg key l (bits_of w / 8) (suc i) vs)
+      (offset_in l (bits_of w / 8) (word_of cfg key i)) (All-head IsValidValue v vs ok)
+      (walk_valid w (suc i) vs (All-tail IsValidValue v vs ok))
+
+  pub load_valid : (w : Width) (slots : List AbsValue) → All IsValidValue slots
+      → IsValidValue (loaded cfg key l (bits_of w / 8) slots)
+  load_valid w slots ok = walk_valid w 0 slots ok
+
 module _ (cfg : Description) (valid : IsValid cfg) (key : Key) (chain : List Activation) (F : ChainFits cfg key chain)
     (typed : All IsActivation chain) (mem : Bytes) (are : AreBytes mem) (l : Location) (at_fits : IsFitting l) where
   abbrev base : ℕ
@@ -104,12 +134,11 @@ module _ (cfg : Description) (valid : IsValid cfg) (key : Key) (chain : List Act
       → Represents (derived (stack_of cfg.regions) (bits_cut (8 * (bits_of w / 8)) nothing_known)) env (number w)
   empty_stands w =
       let n = number w in
-      let none : AreBitsValid nothing_known = record { zeros_fit = omega arith; ones_fit = omega arith; apart = refl } in
       let small : n < 2 ^ bits_of w =
       subst (λ z. n < z) (size_power w) (read_small mem (address_of base l) (bits_of w / 8) are) in
       let same : cut w n ≡ n = mod-eq_of_lt small in
       let made = bits_stand cfg valid env refl (bits_cut (bits_of w) nothing_known) (cut w n)
-      (cut_valid w nothing_known none) (narrow w n) (cut_sound w nothing_known n (nothing_stands n)) in
+      (cut_valid w nothing_known none_valid) (narrow w n) (cut_sound w nothing_known n (nothing_stands n)) in
       subst (λ z. Represents (derived (stack_of cfg.regions) (bits_cut z nothing_known)) env n) (sym (whole_size w))
       (subst (Represents (derived (stack_of cfg.regions) (bits_cut (bits_of w) nothing_known)) env) same made)
 
