@@ -13,3 +13,4 @@ pub mod ValidLemmas
 pub mod ShiftLemmas
 pub mod ScaleLemmas
 pub mod OperandLemmas
+pub mod AccessLemmas

@@ -107,7 +107,7 @@ IsOperand (source.Reg r) = Unit {0}
 IsOperand (source.Mem a) = IsAddress a
 IsOperand (source.Imm z) = Unit {0}
 
-size_is : (w : Width) → bits_of w / 8 ≡ machine.size_of w
+pub size_is : (w : Width) → bits_of w / 8 ≡ machine.size_of w
 size_is Byte = refl
 size_is Long = refl
 size_is Quad = refl
