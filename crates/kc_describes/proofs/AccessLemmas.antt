@@ -1,7 +1,7 @@
 -- The data accesses of an instruction, on both sides in one order: the reads of its operands or of the stack, and then
 -- its write. Each abstract access has the size, the right and the prefix of the machine's, and where its place is known
 -- it is the machine's address. By cases on the instruction; the descriptors that an IRETQ reads have no abstract access.
-use Rattle.std.proofs.Common.{◌≡◌, ℕ, ◌+◌, ◌-◌, ◌*◌, ◌/◌, ◌%◌, ◌^◌, ◌<◌, ◌≤◌, ◌⊎◌, ◌&&◌, ◌==◌, inl, inr, Bool, true, false, cond, if◌then◌else◌, List, [], ◌∷◌, ◌++◌, length, All, Option, Some, None, ℤ, pos, neg_ℤ, slice_index, bit_and, refl, sym, ap, ◌∙◌, subst, arith}
+use Rattle.std.proofs.Common.{◌≡◌, ◌≢◌, ℕ, ◌+◌, ◌-◌, ◌*◌, ◌/◌, ◌%◌, ◌^◌, ◌<◌, ◌≤◌, ◌⊎◌, ◌&&◌, ◌==◌, inl, inr, Bool, true, false, cond, if◌then◌else◌, List, [], ◌∷◌, ◌++◌, length, All, Option, Some, None, ℤ, pos, neg_ℤ, slice_index, bit_and, refl, sym, ap, ◌∙◌, subst, arith}
 use Rattle.std.specs.Prelude.{FitsSigned}
 use Rattle.std.specs.Int.{w64, cast_unsigned, cast_signed, int_wrapping_add}
 use Rattle.std.proofs.lemmas.Int.{ints, of_z-to_z, wrapping_add_is, SFits-int_wrap}
@@ -24,6 +24,7 @@ use Rattle.kc_insn.specs.declared.insn.Source.TheVariants as source
 use Rattle.kc_insn.specs.Fields.{source_of}
 use Rattle.kc_regions.specs.Description.{Description}
 use Rattle.kc_regions.specs.Valid.{IsValid}
+use Rattle.kc_regions.specs.declared.touch.Touch.TheVariants.{Fetch}
 use Rattle.kc_rules.proofs.AnswerLemmas.{some_is}
 use Rattle.kc_cpu.specs.declared.cpu.Cpu.{Cpu}
 use Rattle.kc_cpu.specs.declared.cpu.Latch.{Latch}
@@ -65,6 +66,7 @@ use Rattle.kc_describes.proofs.ValidLemmas.{shifted_valid}
 pub record AccessAgrees (cfg : Description) (key : Key) (base : ℕ) (l : AbsAccess) (a : Access) : Type 0 where
   pub size : a.size ≡ l.size
   pub touch : a.touch ≡ l.touch
+  pub no_fetch : l.touch ≢ Fetch
   pub gs : a.gs ≡ l.gs
   pub at : (p : Location) → l.at ≡ Some p → IsAt cfg key base a.at p
 
@@ -155,6 +157,7 @@ module _ (cfg : Description) (valid : IsValid cfg) (key : Key) (chain : List Act
       (record {
         size = sym (size_is w);
         touch = refl;
+        no_fetch = λ e. absurd cc;
         gs = refl;
         at = λ p e. located_at (linear m a) (machine_operand.linear c a) p r e;
       }, tt)
@@ -167,6 +170,7 @@ module _ (cfg : Description) (valid : IsValid cfg) (key : Key) (chain : List Act
       (record {
         size = sym (size_is w);
         touch = refl;
+        no_fetch = λ e. absurd cc;
         gs = refl;
         at = λ p e. located_at (linear m a) (machine_operand.linear c a) p r e;
       }, tt)
@@ -220,6 +224,7 @@ module _ (cfg : Description) (valid : IsValid cfg) (key : Key) (chain : List Act
   stack_agrees i few = record {
     size = refl;
     touch = refl;
+    no_fetch = λ e. absurd cc;
     gs = refl;
     at = λ p e. stack_at_by i (location_of key rsp_value) p few refl e;
   }
@@ -244,6 +249,7 @@ module _ (cfg : Description) (valid : IsValid cfg) (key : Key) (chain : List Act
       (record {
         size = refl;
         touch = refl;
+        no_fetch = λ e. absurd cc;
         gs = refl;
         at = λ p e. located_at u (machine.pushed_rsp c) p pushed_is (sym (stacked key u (location_of key u)) ∙ e);
       }, tt)

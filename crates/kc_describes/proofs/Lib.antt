@@ -14,3 +14,4 @@ pub mod ShiftLemmas
 pub mod ScaleLemmas
 pub mod OperandLemmas
 pub mod AccessLemmas
+pub mod QuietLemmas
