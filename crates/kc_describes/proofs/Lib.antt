@@ -15,3 +15,4 @@ pub mod ScaleLemmas
 pub mod OperandLemmas
 pub mod AccessLemmas
 pub mod QuietLemmas
+pub mod FrameLemmas
