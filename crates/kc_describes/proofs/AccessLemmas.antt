@@ -1,14 +1,14 @@
 -- The data accesses of an instruction, on both sides in one order: the reads of its operands or of the stack, and then
 -- its write. Each abstract access has the size, the right and the prefix of the machine's, and where its place is known
 -- it is the machine's address. By cases on the instruction; the descriptors that an IRETQ reads have no abstract access.
-use Rattle.std.proofs.Common.{◌≡◌, ◌≢◌, ℕ, ◌+◌, ◌-◌, ◌*◌, ◌/◌, ◌%◌, ◌^◌, ◌<◌, ◌≤◌, ◌⊎◌, ◌&&◌, ◌==◌, inl, inr, Bool, true, false, cond, if◌then◌else◌, List, [], ◌∷◌, ◌++◌, length, All, Option, Some, None, ℤ, pos, neg_ℤ, slice_index, bit_and, refl, sym, ap, ◌∙◌, subst, arith}
+use Rattle.std.proofs.Common.{◌≡◌, ◌≢◌, ℕ, ◌+◌, ◌*◌, ◌%◌, ◌^◌, ◌<◌, ◌&&◌, ◌==◌, inl, List, [], ◌∷◌, ◌++◌, All, Option, Some, None, ℤ, pos, neg_ℤ, slice_index, bit_and, refl, sym, ap, ◌∙◌, subst, arith}
 use Rattle.std.specs.Prelude.{FitsSigned}
 use Rattle.std.specs.Int.{w64, cast_unsigned, cast_signed, int_wrapping_add}
 use Rattle.std.proofs.lemmas.Int.{ints, of_z-to_z, wrapping_add_is, SFits-int_wrap}
 use Rattle.std.proofs.lemmas.Bool.{cond_both}
 use Rattle.kc_words.specs.Flags.{bits_of}
 use Rattle.kc_words.specs.declared.width.Width.{Width}
-use Rattle.kc_words.specs.declared.width.Width.TheVariants.{Byte, Long, Quad}
+use Rattle.kc_words.specs.declared.width.Width.TheVariants.{Quad}
 use Rattle.kc_bits.specs.Bits.{bits_cut, word}
 use Rattle.kc_bits.specs.KnownBits.{KnownBits}
 use Rattle.kc_insn.specs.declared.insn.AluOp.{AluOp}
@@ -40,10 +40,10 @@ use Rattle.kc_exec.specs.Moment.{Moment}
 use Rattle.kc_exec.specs.Operand as machine_operand
 use Rattle.kc_value.specs.AbsValue.{AbsValue}
 use Rattle.kc_value.specs.declared.env.ValueEnv.{ValueEnv}
-use Rattle.kc_state.specs.AbsEffect.{AbsStore, AbsChange, abs_row, store_of, operated, alu_change, alu_result, bit_result, cancels, is_same_reg, on_stack, pushed, push_of, stack_word, with_popped_rsp}
+use Rattle.kc_state.specs.AbsEffect.{AbsChange, abs_row, store_of, operated, alu_change, alu_result, bit_result, cancels, is_same_reg, on_stack, push_of, stack_word, with_popped_rsp}
 use Rattle.kc_state.specs.Flags.{alu_flags, bit_flags}
 use Rattle.kc_state.specs.Calls.{moved_up}
-use Rattle.kc_state.specs.Conditions.{AbsAccess, read_of, moved_location, stack_location, stack_read, reads_of, write_of, accesses_of}
+use Rattle.kc_state.specs.Conditions.{AbsAccess, read_of, moved_location, stack_read, write_of, accesses_of}
 use Rattle.kc_state.specs.Location.{location_of}
 use Rattle.kc_state.specs.Operand.{AbsMoment, linear, number_value, destination, operand}
 use Rattle.kc_state.specs.Shift.{shifted}
@@ -53,10 +53,9 @@ use Rattle.kc_state.specs.declared.location.Location.{Location}
 use Rattle.kc_state.specs.declared.location.Location.TheVariants.{Number, Relative}
 use Rattle.kc_describes.specs.Chain.{newest_of, env_of}
 use Rattle.kc_describes.specs.Fits.{ChainFits}
-use Rattle.kc_describes.specs.Places.{address_of}
 use Rattle.kc_describes.specs.Row.{value_at}
 use Rattle.kc_describes.specs.Widths.{IsActivation}
-use Rattle.kc_describes.proofs.LocationLemmas.{IsPlaced, IsAt}
+use Rattle.kc_describes.proofs.LocationLemmas.{IsAt}
 use Rattle.kc_describes.proofs.OperandLemmas.{IsFor, IsSeen, IsAddress, IsOperand, size_is, register_is, linear_is, location_is, set_register}
 use Rattle.kc_describes.proofs.ShiftLemmas.{IsMove, shift_stands, push_move}
 use Rattle.kc_describes.proofs.ValidLemmas.{shifted_valid}

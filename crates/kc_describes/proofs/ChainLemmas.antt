@@ -1,5 +1,5 @@
 -- The newest activation of a chain, which isn't empty where its oldest interrupted the user, is one of the chain.
-use Rattle.std.proofs.Common.{◌≡◌, ℕ, ◌^◌, ◌<◌, List, [], ◌∷◌, All}
+use Rattle.std.proofs.Common.{◌^◌, ◌<◌, List, [], ◌∷◌, All}
 use Rattle.std.proofs.lemmas.List.Elements.{All-head, All-tail}
 use Rattle.kc_exec.specs.declared.state.Activation.{Activation}
 use Rattle.kc_describes.specs.Chain.{newest_of, OnlyOldestIsUser}

@@ -1,7 +1,7 @@
 -- What of a description stays when an instruction changes the processor, the latches and memory: the chain, its floors
 -- and what is bound to them. And a greater state describes too, part by part: at an inside site where the changes of the
 -- call leave it as it is.
-use Rattle.std.proofs.Common.{◌≡◌, ◌≢◌, ℕ, zero, suc, ◌+◌, ◌-◌, ◌%◌, ◌^◌, ◌<◌, ◌≤◌, ◌⊎◌, ◌&&◌, inl, inr, Bool, true, false, List, [], ◌∷◌, length, get_or, All, Option, Some, None, IsSomeAnd, slice_get, refl, sym, ap, ◌∙◌, subst, arith}
+use Rattle.std.proofs.Common.{◌≡◌, ℕ, zero, suc, ◌^◌, ◌<◌, ◌&&◌, Bool, true, false, List, [], ◌∷◌, length, get_or, Option, Some, None, IsSomeAnd, slice_get, refl, sym, ap, ◌∙◌, subst, arith}
 use Rattle.std.proofs.lemmas.Bool.{and_parts}
 use Rattle.std.proofs.lemmas.List.Elements.{All-get_or}
 use Rattle.kc_lattice.specs.Rows.{rows_below}
@@ -11,7 +11,6 @@ use Rattle.kc_insn.specs.declared.insn.Insn.{Insn}
 use Rattle.kc_insn.specs.declared.insn.Insn.TheVariants.{Call as CallInsn}
 use Rattle.kc_regions.specs.Description.{Description}
 use Rattle.kc_regions.specs.Lookup.{handler_of}
-use Rattle.kc_regions.specs.Region.{stack_of}
 use Rattle.kc_regions.specs.Valid.{IsValid}
 use Rattle.kc_regions.specs.declared.entry.Handler.{Handler}
 use Rattle.kc_cpu.specs.declared.cpu.Call.{Call}
@@ -19,27 +18,23 @@ use Rattle.kc_cpu.specs.declared.cpu.Cpu.{Cpu}
 use Rattle.kc_cpu.specs.declared.cpu.Latch.{Latch}
 use Rattle.kc_cpu.specs.declared.cpu.Mode.{Mode}
 use Rattle.kc_cpu.specs.declared.cpu.Mode.TheVariants.{User, Code, Inside}
-use Rattle.kc_mem.specs.Memory.{Bytes, AreBytes, read}
+use Rattle.kc_mem.specs.Memory.{Bytes, AreBytes}
 use Rattle.kc_exec.specs.declared.state.Activation.{Activation}
 use Rattle.kc_exec.specs.declared.state.State.{State}
-use Rattle.kc_events.specs.Allowed.{Promises}
 use Rattle.kc_space.specs.Latches.{latches_below, tri_below}
 use Rattle.kc_space.specs.LatchesLaws.{tri_grows}
 use Rattle.kc_space.specs.Spaces.{gs_below, who_below, map_below}
 use Rattle.kc_space.specs.SpacesLaws.{who_grows, map_grows}
 use Rattle.kc_space.specs.declared.gs.GsPair.{GsPair}
 use Rattle.kc_space.specs.declared.latches.Latches.{Latches}
-use Rattle.kc_value.specs.AbsValue.{AbsValue}
 use Rattle.kc_value.specs.Value.{IsValidValue, Represents, value_below, value_top}
 use Rattle.kc_value.specs.ValueLaws.{value_grows, value_laws}
 use Rattle.kc_value.specs.declared.env.ValueEnv.{ValueEnv}
 use Rattle.kc_state.specs.AbsEvents.{handler_called_by}
 use Rattle.kc_state.specs.Calls.{called, called_handler}
 use Rattle.kc_state.specs.Moment.{cpu_of}
-use Rattle.kc_state.specs.Places.{word_of}
 use Rattle.kc_state.specs.State.{IsState, state_below}
 use Rattle.kc_state.specs.declared.key.Key.{Key}
-use Rattle.kc_state.specs.declared.location.Location.{Location}
 use Rattle.kc_state.specs.declared.site.Site.{Site}
 use Rattle.kc_state.specs.declared.state.AbsState.{AbsState}
 use Rattle.kc_state.proofs.StackLemmas.{stack_below}
@@ -48,9 +43,9 @@ use Rattle.kc_describes.specs.Describes.{AreBaseSlotsTop, IsInsideAt, IsAtPoint,
 use Rattle.kc_describes.specs.Fits.{IsKernelCpu}
 use Rattle.kc_describes.specs.Inside.{IsCallAt, IsHandlerRunning}
 use Rattle.kc_describes.specs.Places.{FloorsStand, SlotsStand}
-use Rattle.kc_describes.specs.Row.{value_at, RegistersStand, CallStands, FileStands, SpacesStand, RowStands}
+use Rattle.kc_describes.specs.Row.{value_at, RegistersStand, FileStands, RowStands}
 use Rattle.kc_describes.specs.Spaces.{GsStands, LatchesStand, gs_env, cr3_env}
-use Rattle.kc_describes.specs.Widths.{IsCpu, IsMachine}
+use Rattle.kc_describes.specs.Widths.{IsCpu}
 use Rattle.kc_describes.proofs.OperandLemmas.{IsSeen}
 use Rattle.kc_describes.proofs.ValidLemmas.{top_valid}
 

@@ -2,7 +2,7 @@
 -- numbers meet bytes at numbers by their addresses, and words at offsets meet bytes at offsets by their distances. A
 -- number and an offset meet where zones say: bytes in the zone of the stack of a key without a base, and the words below
 -- the base or below the top of that stack.
-use Rattle.std.proofs.Common.{◌≡◌, ◌≢◌, ℕ, ◌+◌, ◌-◌, ◌*◌, ◌/◌, ◌%◌, ◌^◌, ◌<◌, ◌≤◌, ◌⊎◌, ◌&&◌, ◌||◌, ◌==◌, nat_le, nat_lt, not, inl, inr, Bool, true, false, Option, Some, None, ℤ, pos, neg_ℤ, refl, sym, ap, ◌∙◌, subst, arith}
+use Rattle.std.proofs.Common.{◌≡◌, ◌≢◌, ℕ, ◌+◌, ◌-◌, ◌*◌, ◌/◌, ◌%◌, ◌^◌, ◌<◌, ◌≤◌, ◌&&◌, ◌||◌, ◌==◌, nat_le, nat_lt, not, inl, inr, Bool, true, false, Option, Some, None, ℤ, pos, neg_ℤ, refl, sym, ap, ◌∙◌, subst, arith}
 use Rattle.std.specs.Prelude.{FitsSigned, slice_get}
 use Rattle.std.specs.Int.{w64, cast_unsigned}
 use Rattle.std.proofs.lemmas.Int.{ints}
@@ -21,7 +21,7 @@ use Rattle.kc_rules.proofs.AnswerLemmas.{some_is}
 use Rattle.kc_space.specs.declared.map.MapState.{MapState}
 use Rattle.kc_exec.specs.declared.state.Activation.{Activation}
 use Rattle.kc_state.specs.Access.{may}
-use Rattle.kc_state.specs.Memory.{distance, is_below, meets, meets_word, is_base_slot, is_same_stack, holds_top, is_marked_slot, hits}
+use Rattle.kc_state.specs.Memory.{meets, meets_word, is_base_slot, is_same_stack, holds_top, is_marked_slot, hits}
 use Rattle.kc_state.specs.Places.{below_address, location_stack, word_of, base_word}
 use Rattle.kc_state.specs.Shift.{has_no_base}
 use Rattle.kc_state.specs.declared.key.Key.{Key}
@@ -30,7 +30,7 @@ use Rattle.kc_state.specs.declared.location.Location.TheVariants.{Number, Relati
 use Rattle.kc_state.proofs.ApartLemmas.{slot_of_base}
 use Rattle.kc_describes.specs.Fits.{IsBaseOf, Fits}
 use Rattle.kc_describes.specs.Places.{address_of}
-use Rattle.kc_describes.proofs.LocationLemmas.{IsRelativeKey, relative_key, IsPlaced}
+use Rattle.kc_describes.proofs.LocationLemmas.{IsRelativeKey, IsPlaced}
 use Rattle.kc_describes.proofs.OffsetLemmas.{rising_byte}
 use Rattle.kc_describes.proofs.PermissionLemmas.{may_each, open_byte, some_region, relative_zone}
 use Rattle.kc_describes.proofs.SlotLemmas.{area_word, base_word_at, base_zone, marked_word_at, marked_zone}

@@ -1,7 +1,7 @@
 -- What `clear` says of live bytes. A live byte lies in a stack, whose floor isn't above it. At a number each byte of the
 -- access ends at or below that floor; at an offset the byte lies in the zone of the key's stack below the base, which is
 -- the floor unless the stack has no live byte.
-use Rattle.std.proofs.Common.{◌≡◌, ◌≢◌, ℕ, zero, suc, ◌+◌, ◌-◌, ◌%◌, ◌^◌, ◌<◌, ◌≤◌, ◌&&◌, max, nat_le, inl, inr, Bool, true, false, List, Any, Option, Some, None, get_or, ℤ, pos, neg_ℤ, ◌≤ℤ◌, int_le, refl, sym, ap, ◌∙◌, subst, arith}
+use Rattle.std.proofs.Common.{◌≡◌, ℕ, zero, suc, ◌+◌, ◌^◌, ◌<◌, ◌≤◌, max, inl, inr, Bool, true, List, Option, Some, None, get_or, ℤ, pos, neg_ℤ, ◌≤ℤ◌, int_le, ap, ◌∙◌, subst, arith}
 use Rattle.std.specs.Prelude.{FitsSigned}
 use Rattle.std.specs.Int.{w64, cast_unsigned}
 use Rattle.std.proofs.lemmas.Int.{ints}

@@ -1,7 +1,7 @@
 -- What a load finds stands for the bytes in memory. By induction on the slots: the first one whose word holds all the
 -- bytes gives its value, where they are the whole word, and else the bits of these bytes; without one the bytes above
 -- those loaded are 0.
-use Rattle.std.proofs.Common.{◌≡◌, ℕ, zero, suc, ◌+◌, ◌-◌, ◌*◌, ◌/◌, ◌%◌, ◌^◌, ◌<◌, ◌≤◌, ◌==◌, nat_le, inl, inr, Bool, true, false, cond, List, [], ◌∷◌, length, get_or, All, Option, Some, None, bit_and, mod-eq_of_lt, refl, sym, ap, ◌∙◌, subst, arith}
+use Rattle.std.proofs.Common.{◌≡◌, ℕ, zero, suc, ◌+◌, ◌*◌, ◌/◌, ◌%◌, ◌^◌, ◌<◌, ◌≤◌, ◌==◌, nat_le, inl, inr, List, [], ◌∷◌, length, get_or, All, Option, Some, None, mod-eq_of_lt, refl, sym, ap, ◌∙◌, subst, arith}
 use Rattle.std.specs.Int.{bit_at}
 use Rattle.std.proofs.lemmas.Bool.{leb-true, cond_both}
 use Rattle.std.proofs.lemmas.Nat.{shr-shr, shr_le, and_shr, pow-add}

@@ -1,9 +1,9 @@
 -- A location names the number for which its value stands: by cases on the value's symbol, and for the symbol of the base
 -- on whether the key has one. Where the key has none, the base and the frame below it lie in the key's stack.
-use Rattle.std.proofs.Common.{◌≡◌, ℕ, ◌+◌, ◌-◌, ◌%◌, ◌^◌, ◌<◌, ◌≤◌, ◌⊎◌, ◌==◌, inl, inr, Bool, true, false, cond, Option, Some, None, IfSome, option_map, ℤ, refl, sym, ap, ◌∙◌, subst, arith}
+use Rattle.std.proofs.Common.{◌≡◌, ℕ, ◌+◌, ◌-◌, ◌^◌, ◌<◌, ◌≤◌, ◌==◌, inl, inr, Bool, false, Option, Some, None, IfSome, option_map, ℤ, refl, sym, ap, ◌∙◌, subst, arith}
 use Rattle.std.specs.Prelude.{FitsSigned}
 use Rattle.std.specs.Int.{w64, cast_unsigned}
-use Rattle.std.proofs.lemmas.Bool.{cases_Bool, false≢true}
+use Rattle.std.proofs.lemmas.Bool.{cases_Bool}
 use Rattle.kc_words.specs.Span.{Holds}
 use Rattle.kc_bits.specs.KnownBits.{KnownBits}
 use Rattle.kc_bits.specs.Bits.{IsValid as AreBitsValid, bits_single, unknown, word}
@@ -27,7 +27,7 @@ use Rattle.kc_state.specs.Places.{below_address}
 use Rattle.kc_state.specs.declared.key.Key.{Key}
 use Rattle.kc_state.specs.declared.location.Location.{Location}
 use Rattle.kc_state.specs.declared.location.Location.TheVariants.{Number, Relative}
-use Rattle.kc_describes.specs.Fits.{LiesInStack, IsBaseOf, Fits}
+use Rattle.kc_describes.specs.Fits.{IsBaseOf, Fits}
 use Rattle.kc_describes.specs.Places.{address_of}
 use Rattle.kc_describes.proofs.ValueLemmas.{single_is}
 

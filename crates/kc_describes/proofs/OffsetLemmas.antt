@@ -1,7 +1,7 @@
 -- Addresses as whole numbers. A sum of a base and a signed offset wraps at 2^64; a base in a stack lies at 2^63 or
 -- above, so where the sum stays there too, or where a byte of it lies near the base, nothing has wrapped. Each fact is
 -- one call of `omega`; the lemmas above go on with their whole numbers and see no remainder.
-use Rattle.std.proofs.Common.{◌≡◌, ℕ, ◌+◌, ◌-◌, ◌%◌, ◌^◌, ◌<◌, ◌≤◌, arith, ℤ, pos, ◌+ℤ◌, ◌≤ℤ◌, neg_ℤ}
+use Rattle.std.proofs.Common.{◌≡◌, ℕ, ◌+◌, ◌^◌, ◌<◌, ◌≤◌, arith, ℤ, pos, ◌+ℤ◌, ◌≤ℤ◌, neg_ℤ}
 use Rattle.std.proofs.lemmas.Int.{ints}
 use Rattle.std.specs.Prelude.{FitsSigned}
 use Rattle.std.specs.Int.{w64, cast_unsigned}

@@ -1,6 +1,6 @@
 -- Operands and their addresses, on both sides in the same order: the base, the index, the displacement, the GS base. The
 -- address of an operand in memory is where its value points, and what is loaded there stands for the bytes.
-use Rattle.std.proofs.Common.{◌≡◌, ℕ, ◌+◌, ◌-◌, ◌*◌, ◌/◌, ◌%◌, ◌^◌, ◌<◌, ◌≤◌, ◌⊎◌, inl, inr, Bool, true, false, cond, List, length, get_or, set, All, Option, Some, None, ℤ, slice_index, get_or-set_same, get_or-set_other, refl, sym, ap, ◌∙◌, subst, arith}
+use Rattle.std.proofs.Common.{◌≡◌, ℕ, ◌+◌, ◌*◌, ◌/◌, ◌^◌, ◌<◌, ◌≤◌, inl, inr, Bool, true, false, cond, List, length, get_or, set, All, Option, Some, None, slice_index, get_or-set_same, get_or-set_other, refl, sym, ap, ◌∙◌, subst, arith}
 use Rattle.std.specs.Int.{w64, cast_unsigned}
 use Rattle.std.proofs.lemmas.Bool.{cases_lt, cases_eq}
 use Rattle.std.proofs.lemmas.List.{get_or_past, length-set}
@@ -20,7 +20,6 @@ use Rattle.kc_insn.specs.declared.insn.Reg.{Reg}
 use Rattle.kc_insn.specs.declared.insn.Source.{Source}
 use Rattle.kc_insn.specs.declared.insn.Source.TheVariants as source
 use Rattle.kc_regions.specs.Description.{Description}
-use Rattle.kc_regions.specs.Ranges.{IsCpuInRange}
 use Rattle.kc_regions.specs.Valid.{IsValid}
 use Rattle.kc_space.specs.declared.who.Who.{Who}
 use Rattle.kc_space.specs.declared.who.Who.TheVariants as who
@@ -36,7 +35,7 @@ use Rattle.kc_value.specs.Value.{IsValidValue, Represents, value_top}
 use Rattle.kc_value.specs.declared.env.ValueEnv.{ValueEnv}
 use Rattle.kc_state.specs.Location.{location_of}
 use Rattle.kc_state.specs.Scaled.{IsScaled}
-use Rattle.kc_state.specs.Operand.{AbsMoment, register, at_width, load_by, number_value, bits_value, base_value, scaled_bits, indexed_bits, effective_by, effective, with_gs_base, linear, load_at, operand}
+use Rattle.kc_state.specs.Operand.{AbsMoment, register, at_width, load_by, number_value, bits_value, base_value, scaled_bits, effective_by, effective, with_gs_base, linear, load_at, operand}
 use Rattle.kc_state.specs.declared.cpu.AbsCpu.{AbsCpu}
 use Rattle.kc_state.specs.declared.key.Key.{Key}
 use Rattle.kc_state.specs.declared.location.Location.{Location}
@@ -49,7 +48,7 @@ use Rattle.kc_describes.specs.Spaces.{IsGsOf}
 use Rattle.kc_describes.specs.Widths.{IsWord, IsActivation}
 use Rattle.kc_describes.proofs.LoadLemmas.{load_stands, load_valid}
 use Rattle.kc_describes.proofs.LocationLemmas.{IsAt, located}
-use Rattle.kc_describes.proofs.ScaleLemmas.{IsScale, scaled_stand, scaled_valid}
+use Rattle.kc_describes.proofs.ScaleLemmas.{scaled_stand, scaled_valid}
 use Rattle.kc_describes.proofs.ShiftLemmas.{IsMove, cast_bound, shift_stands}
 use Rattle.kc_describes.proofs.StoreLemmas.{placed_fits}
 use Rattle.kc_describes.proofs.ValidLemmas.{top_valid, number_valid, bits_valid, width_valid, shifted_valid, all_valid}

@@ -1,15 +1,14 @@
 -- What `may` permits, byte by byte. At a number the walk asks each byte. At an offset the bytes lie in the 4,096 bytes
 -- below the base, so in the zone of the key's stack: in the stack, which is present and may be written, or in the guard
 -- that ends where the stack begins.
-use Rattle.std.proofs.Common.{◌≡◌, ◌≢◌, ℕ, zero, suc, ◌+◌, ◌-◌, ◌%◌, ◌^◌, ◌<◌, ◌≤◌, ◌⊎◌, ◌&&◌, ◌||◌, not, nat_eq, inl, inr, Bool, true, false, Option, Some, None, IsSome, ℤ, pos, neg_ℤ, ◌+ℤ◌, ◌≤ℤ◌, int_le, refl, sym, ap, ◌∙◌, subst, arith}
+use Rattle.std.proofs.Common.{◌≡◌, ◌≢◌, ℕ, zero, suc, ◌+◌, ◌^◌, ◌<◌, ◌⊎◌, ◌&&◌, ◌||◌, not, nat_eq, inl, inr, Bool, true, false, Option, Some, None, IsSome, ℤ, pos, neg_ℤ, ◌+ℤ◌, ◌≤ℤ◌, int_le, refl, sym, ap, ◌∙◌, subst, arith}
 use Rattle.std.specs.Prelude.{FitsSigned}
-use Rattle.std.specs.Int.{w64, cast_unsigned}
+use Rattle.std.specs.Int.{w64}
 use Rattle.std.proofs.lemmas.Int.{ints}
 use Rattle.std.proofs.lemmas.Bool.{cases_eq, and_parts, and_from, or_left, or_right, eq-eqb, not-true}
-use Rattle.kc_words.specs.Span.{Holds}
 use Rattle.kc_bits.specs.Bits.{word}
 use Rattle.kc_regions.specs.Description.{Description}
-use Rattle.kc_regions.specs.Layout.{InBytes, InZone, IsStackAt}
+use Rattle.kc_regions.specs.Layout.{InBytes, InZone}
 use Rattle.kc_regions.specs.Permission.{passes, in_guard, is_present, has_right, permits}
 use Rattle.kc_regions.specs.Region.{is_guard, region_of, stack_of, stack_at}
 use Rattle.kc_regions.specs.Valid.{IsValid}
@@ -26,7 +25,7 @@ use Rattle.kc_state.specs.declared.location.Location.{Location}
 use Rattle.kc_state.specs.declared.location.Location.TheVariants.{Number, Relative}
 use Rattle.kc_describes.specs.Places.{address_of}
 use Rattle.kc_describes.specs.Spaces.{IsCr3Of}
-use Rattle.kc_describes.proofs.LocationLemmas.{IsInStack, in_stack, stack_high, IsRelativeKey, IsPlaced}
+use Rattle.kc_describes.proofs.LocationLemmas.{in_stack, stack_high, IsRelativeKey, IsPlaced}
 use Rattle.kc_describes.proofs.OffsetLemmas.{IsNear, near_below}
 
 -- ---- tests

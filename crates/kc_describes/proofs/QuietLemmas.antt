@@ -2,9 +2,9 @@
 -- prefix 65 adds the kernel's GS base. An access that agrees with an abstract one is such, where that one is permitted
 -- and clear. A turn whose accesses are such breaks none of B2, B3 and B4, since the accesses that are judged have no
 -- byte in a guard.
-use Rattle.std.proofs.Common.{◌≡◌, ◌≢◌, ℕ, zero, suc, ◌+◌, ◌-◌, ◌%◌, ◌^◌, ◌<◌, ◌≤◌, ◌⊎◌, ◌&&◌, ◌||◌, not, inl, inr, Bool, true, false, cond, List, [], ◌∷◌, All, Contains, take, Option, Some, None, refl, sym, ap, ◌∙◌, subst, arith}
+use Rattle.std.proofs.Common.{◌≡◌, ℕ, zero, suc, ◌+◌, ◌^◌, ◌<◌, ◌⊎◌, ◌||◌, not, inl, inr, Bool, true, false, cond, List, [], ◌∷◌, All, Contains, take, Option, Some, None, refl, sym, ap, ◌∙◌, subst, arith}
 use Rattle.std.specs.List.{list_all, prefix_len}
-use Rattle.std.proofs.lemmas.Bool.{cases_eq, cases_Bool, and_parts, or_parts, or_cases, not-true, false≢true}
+use Rattle.std.proofs.lemmas.Bool.{cases_eq, and_parts, or_parts, or_cases, not-true, false≢true}
 use Rattle.std.proofs.lemmas.List.Elements.{All-nil, All-cons, All-head, All-tail, All-contains}
 use Rattle.kc_regions.specs.Description.{Description}
 use Rattle.kc_regions.specs.Layout.{InBytes}
@@ -12,7 +12,7 @@ use Rattle.kc_regions.specs.Permission.{in_guard, permits}
 use Rattle.kc_regions.specs.Valid.{IsValid}
 use Rattle.kc_regions.specs.declared.region.Region.{Region}
 use Rattle.kc_regions.specs.declared.touch.Touch.{Touch}
-use Rattle.kc_regions.specs.declared.touch.Touch.TheVariants.{Fetch, Read, Write}
+use Rattle.kc_regions.specs.declared.touch.Touch.TheVariants.{Write}
 use Rattle.kc_mem.specs.Memory.{next}
 use Rattle.kc_exec.specs.Execution.{guarded}
 use Rattle.kc_exec.specs.Live.{IsLive}
@@ -23,7 +23,6 @@ use Rattle.kc_exec.specs.declared.state.State.{State}
 use Rattle.kc_events.specs.Attempt.{Attempt}
 use Rattle.kc_events.specs.Breaks.{judged, IsOf, UsesOtherGs, TouchesForbidden, WritesLive}
 use Rattle.kc_frames.specs.declared.floors.Floors.{Floors}
-use Rattle.kc_space.specs.declared.map.MapState.{MapState}
 use Rattle.kc_state.specs.Access.{may, clear}
 use Rattle.kc_state.specs.Conditions.{AbsAccess, may_at, is_write, clear_at}
 use Rattle.kc_state.specs.Operand.{AbsMoment}
@@ -34,7 +33,6 @@ use Rattle.kc_describes.specs.Places.{address_of, FloorsStand}
 use Rattle.kc_describes.specs.Spaces.{IsCr3Of}
 use Rattle.kc_describes.proofs.AccessLemmas.{AccessAgrees, Agree}
 use Rattle.kc_describes.proofs.LiveLemmas.{clear_not_live}
-use Rattle.kc_describes.proofs.LocationLemmas.{IsPlaced}
 use Rattle.kc_describes.proofs.PermissionLemmas.{IsKnownCr3, may_permits}
 use Rattle.kc_describes.proofs.StoreLemmas.{placed_fits, address_fits}
 

@@ -1,6 +1,6 @@
 -- A word times 1, 2, 4 or 8: what is known of it stands for it. A product by a power of 2 is a block of bits above
 -- another one, so the masks of known bits are those of the blocks (`and_block`).
-use Rattle.std.proofs.Common.{◌≡◌, ℕ, ◌+◌, ◌-◌, ◌*◌, ◌%◌, ◌^◌, ◌<◌, ◌⊎◌, inl, inr, bit_and, refl, sym, ap, ◌∙◌, subst, arith, zero-mul}
+use Rattle.std.proofs.Common.{◌≡◌, ℕ, ◌+◌, ◌-◌, ◌*◌, ◌%◌, ◌^◌, ◌<◌, ◌⊎◌, inl, inr, bit_and, refl, sym, ap, ◌∙◌, arith, zero-mul}
 use Rattle.std.proofs.Math.Nat.{zero-mod}
 use Rattle.std.proofs.lemmas.Nat.{and_block, and_mod}
 use Rattle.kc_bits.specs.KnownBits.{KnownBits}

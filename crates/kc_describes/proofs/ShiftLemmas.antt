@@ -1,14 +1,14 @@
 -- A value that is moved by a known number. The bits are those of a sum. The symbol of the base moves with its offset;
 -- its set of places stays only where the key has no base and the number moves up, not past the base: from an address of
 -- the stack towards the base, which lies in it too.
-use Rattle.std.proofs.Common.{◌≡◌, ◌≢◌, ℕ, ◌+◌, ◌-◌, ◌%◌, ◌^◌, ◌<◌, ◌≤◌, ◌⊎◌, ◌&&◌, ◌==◌, int_le, inl, inr, Bool, true, false, cond, List, length, All, Option, Some, None, IfSome, ℤ, pos, neg_ℤ, ◌+ℤ◌, ◌≤ℤ◌, refl, sym, ap, ◌∙◌, subst, arith}
+use Rattle.std.proofs.Common.{◌≡◌, ℕ, ◌+◌, ◌-◌, ◌^◌, ◌<◌, ◌≤◌, ◌⊎◌, ◌&&◌, int_le, inl, inr, true, false, List, length, Option, Some, None, IfSome, ℤ, pos, neg_ℤ, ◌+ℤ◌, ◌≤ℤ◌, refl, sym, ap, ◌∙◌, subst, arith}
 use Rattle.std.specs.Prelude.{FitsSigned}
 use Rattle.std.specs.Int.{w64, cast_unsigned, bit_at}
 use Rattle.std.proofs.lemmas.Int.{ints}
-use Rattle.std.proofs.lemmas.Bool.{cases_Bool, false≢true, cases_eq, eqb-true, and_parts, cond_both, cond-true, cond-false}
+use Rattle.std.proofs.lemmas.Bool.{false≢true, cases_eq, eqb-true, and_parts, cond_both}
 use Rattle.std.proofs.lemmas.Nat.Bits.{bit_at-pow_same, bit_at-pow_other}
 use Rattle.kc_words.specs.Span.{Holds}
-use Rattle.kc_bits.specs.Bits.{StandsFor, all_of, bits_add, nothing_known, word}
+use Rattle.kc_bits.specs.Bits.{all_of, bits_add, word}
 use Rattle.kc_bits.proofs.Sums.{add_valid, add_sound}
 use Rattle.kc_bits.proofs.Whole.{all_stands}
 use Rattle.kc_regions.specs.Description.{Description}
@@ -37,9 +37,8 @@ use Rattle.kc_state.specs.declared.location.Location.{Location}
 use Rattle.kc_state.specs.declared.location.Location.TheVariants.{Number, Relative}
 use Rattle.kc_describes.specs.Chain.{newest_of, env_of}
 use Rattle.kc_describes.specs.Fits.{ChainFits}
-use Rattle.kc_describes.specs.Places.{address_of, stack_spans}
-use Rattle.kc_describes.specs.Widths.{IsActivation}
-use Rattle.kc_describes.proofs.LocationLemmas.{in_stack, stack_high, IsRelativeKey, relative_key, located}
+use Rattle.kc_describes.specs.Places.{address_of}
+use Rattle.kc_describes.proofs.LocationLemmas.{in_stack, relative_key, located}
 use Rattle.kc_describes.proofs.OffsetLemmas.{moved_up_stays}
 use Rattle.kc_describes.proofs.PermissionLemmas.{int_le-true, relative_zone}
 use Rattle.kc_describes.proofs.ValidLemmas.{all_valid, offset_fits, shifted_valid}

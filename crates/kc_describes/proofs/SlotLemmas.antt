@@ -1,10 +1,9 @@
 -- The words of slots: where they lie, by the four ranges of slots. Those of the TSS and of the configuration lie in
 -- areas. Those below the base lie in the zone of the stack that holds the frame: the base is aligned as the stack's ends
 -- are, and 64 words are fewer than the 4,096 bytes of the guard. Those below the top of a marked stack lie in its zone.
-use Rattle.std.proofs.Common.{◌≡◌, ◌≢◌, ℕ, zero, suc, ◌+◌, ◌-◌, ◌*◌, ◌/◌, ◌%◌, ◌^◌, ◌<◌, ◌≤◌, ◌⊎◌, inl, inr, Bool, true, false, cond, nat_lt, List, [], ◌∷◌, length, get_or, filter, find, All, Contains, Option, Some, None, option_map, ℤ, pos, neg_ℤ, refl, sym, ap, ◌∙◌, subst, arith}
+use Rattle.std.proofs.Common.{◌≡◌, ℕ, zero, suc, ◌+◌, ◌-◌, ◌*◌, ◌/◌, ◌%◌, ◌^◌, ◌<◌, ◌≤◌, inl, inr, Bool, true, false, cond, nat_lt, List, [], ◌∷◌, length, get_or, filter, find, All, Contains, Option, Some, None, option_map, pos, neg_ℤ, refl, sym, ap, ◌∙◌, subst, arith}
 use Rattle.std.specs.Prelude.{slice_get}
 use Rattle.std.specs.Int.{w64, cast_unsigned}
-use Rattle.std.proofs.lemmas.Int.{ints}
 use Rattle.std.proofs.lemmas.Bool.{cases_lt, lt-ltb, le-ltb}
 use Rattle.std.proofs.lemmas.List.Elements.{All-head, All-tail}
 use Rattle.std.proofs.lemmas.Option.{slice_get_within, get_or_from_slice_get}
@@ -33,9 +32,9 @@ use Rattle.kc_state.specs.declared.key.Key.{Key}
 use Rattle.kc_state.specs.declared.location.Location.{Location}
 use Rattle.kc_state.specs.declared.location.Location.TheVariants.{Number, Relative}
 use Rattle.kc_state.proofs.ApartLemmas.{slot_of_base, slot_of_top}
-use Rattle.kc_describes.specs.Fits.{IsBaseOf, IsFrameBase, Fits}
+use Rattle.kc_describes.specs.Fits.{IsBaseOf, Fits}
 use Rattle.kc_describes.specs.Places.{address_of, WordStands, SlotsStand}
-use Rattle.kc_describes.proofs.LocationLemmas.{IsInStack, in_stack, stack_high, IsHigh}
+use Rattle.kc_describes.proofs.LocationLemmas.{in_stack, stack_high, IsHigh}
 use Rattle.kc_describes.proofs.OffsetLemmas.{rising_byte}
 
 -- ---- changes of each slot

@@ -1,11 +1,11 @@
 -- Slots after a store. A slot whose word is just the bytes takes the value, which is read back; one that is hit becomes
 -- the top; and of any other no byte of its word is among those written, so it stands for the same number. The changes
 -- of a handler's call only put tops.
-use Rattle.std.proofs.Common.{◌≡◌, ℕ, ◌+◌, ◌-◌, ◌%◌, ◌^◌, ◌<◌, ◌≤◌, ◌⊎◌, ◌&&◌, ◌==◌, inl, inr, Bool, true, false, cond, List, length, All, Option, Some, None, ℤ, refl, sym, ap, ◌∙◌, subst, arith}
+use Rattle.std.proofs.Common.{◌≡◌, ℕ, ◌+◌, ◌-◌, ◌%◌, ◌^◌, ◌<◌, ◌≤◌, ◌⊎◌, ◌==◌, inl, inr, Bool, true, false, cond, List, length, All, Option, Some, None, refl, sym, ap, ◌∙◌, subst, arith}
 use Rattle.std.specs.Prelude.{FitsSigned}
 use Rattle.std.specs.Int.{w64, cast_unsigned}
 use Rattle.std.proofs.lemmas.Int.{ints}
-use Rattle.std.proofs.lemmas.Bool.{cases_Bool, cases_lt, eqb-true, and_parts, cond-true, cond-false, false≢true}
+use Rattle.std.proofs.lemmas.Bool.{cases_Bool, eqb-true, and_parts, cond-true, cond-false, false≢true}
 use Rattle.kc_bits.specs.Bits.{word}
 use Rattle.kc_frames.specs.Slots.{slot_count, redone}
 use Rattle.kc_regions.specs.Description.{Description}
@@ -20,7 +20,7 @@ use Rattle.kc_value.specs.Value.{Represents, value_top}
 use Rattle.kc_value.specs.declared.env.ValueEnv.{ValueEnv}
 use Rattle.kc_state.specs.Access.{may}
 use Rattle.kc_state.specs.Calls.{moved_down, used}
-use Rattle.kc_state.specs.Memory.{distance, is_zero, is_just, meets_word, hits, stored}
+use Rattle.kc_state.specs.Memory.{distance, is_zero, is_just, hits, stored}
 use Rattle.kc_state.specs.Places.{below_address, location_stack, base_word, word_of}
 use Rattle.kc_state.specs.declared.key.Key.{Key}
 use Rattle.kc_state.specs.declared.location.Location.{Location}
@@ -33,7 +33,7 @@ use Rattle.kc_describes.specs.Places.{address_of, WordStands, SlotsStand}
 use Rattle.kc_describes.specs.Row.{value_at}
 use Rattle.kc_describes.specs.Widths.{IsActivation}
 use Rattle.kc_describes.proofs.ChainLemmas.{newest_base}
-use Rattle.kc_describes.proofs.HitLemmas.{word_fits, offset_word, Hitting, hits_cover, written_hits}
+use Rattle.kc_describes.proofs.HitLemmas.{word_fits, offset_word, hits_cover, written_hits}
 use Rattle.kc_describes.proofs.LocationLemmas.{IsPlaced}
 use Rattle.kc_describes.proofs.MemoryLemmas.{read_agree, write_elsewhere, read-write}
 use Rattle.kc_describes.proofs.SlotLemmas.{get_or-redone, redone_stand}

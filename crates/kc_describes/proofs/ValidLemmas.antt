@@ -1,12 +1,12 @@
 -- The values that are made are valid: their symbols, bits and sets of places are in range. By how each is made.
-use Rattle.std.proofs.Common.{◌≡◌, ℕ, ◌+◌, ◌-◌, ◌%◌, ◌^◌, ◌<◌, ◌≤◌, ◌⊎◌, ◌&&◌, ◌==◌, int_le, inl, inr, Bool, true, false, cond, Option, Some, None, ℤ, pos, neg_ℤ, ◌+ℤ◌, ◌≤ℤ◌, refl, sym, ap, ◌∙◌, subst, arith}
+use Rattle.std.proofs.Common.{◌≡◌, ℕ, ◌-◌, ◌^◌, ◌<◌, ◌&&◌, int_le, Bool, true, false, cond, Option, Some, None, ℤ, pos, neg_ℤ, ◌+ℤ◌, refl, arith}
 use Rattle.std.specs.Prelude.{FitsSigned}
 use Rattle.std.specs.Int.{w64, cast_unsigned}
 use Rattle.std.proofs.lemmas.Int.{ints}
 use Rattle.std.proofs.lemmas.Bool.{and_parts, cond_both}
 use Rattle.std.proofs.lemmas.Nat.{pow_below}
 use Rattle.kc_bits.specs.KnownBits.{KnownBits}
-use Rattle.kc_bits.specs.Bits.{IsValid as AreBitsValid, all_of, bits_single, bits_add, nothing_known, word}
+use Rattle.kc_bits.specs.Bits.{IsValid as AreBitsValid, all_of, bits_single, nothing_known}
 use Rattle.kc_bits.proofs.Sums.{add_valid}
 use Rattle.kc_bits.proofs.Whole.{all_apart}
 use Rattle.kc_regions.specs.Description.{Description}
@@ -15,15 +15,13 @@ use Rattle.kc_regions.specs.Valid.{IsValid}
 use Rattle.kc_value.specs.AbsValue.{AbsValue}
 use Rattle.kc_value.specs.Made.{IsPlace, constant, derived_from}
 use Rattle.kc_value.specs.Place.{place_bit}
-use Rattle.kc_value.specs.Symbol.{IsSym}
 use Rattle.kc_value.specs.Value.{IsValidValue, value_top, all_places}
 use Rattle.kc_value.specs.declared.symbol.Sym.{Sym}
 use Rattle.kc_value.specs.declared.symbol.Sym.TheVariants.{Plain, Base, Entry, UserGs}
 use Rattle.kc_state.specs.Operand.{number_value, bits_value, at_width}
-use Rattle.kc_state.specs.Shift.{is_offset, is_only_stack, has_no_base, shifted_places, moved_bits, shifted_from, shifted}
+use Rattle.kc_state.specs.Shift.{is_offset, is_only_stack, has_no_base, moved_bits, shifted_from, shifted}
 use Rattle.kc_state.specs.declared.key.Key.{Key}
 use Rattle.kc_state.proofs.StackLemmas.{is_place}
-use Rattle.kc_words.specs.Flags.{bits_of, cut}
 use Rattle.kc_words.specs.declared.width.Width.{Width}
 use Rattle.kc_words.specs.declared.width.Width.TheVariants.{Byte, Long, Quad}
 use Rattle.kc_describes.proofs.LocationLemmas.{single_fits}

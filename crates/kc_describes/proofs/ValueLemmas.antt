@@ -1,9 +1,8 @@
 -- What made values stand for, where the environment has the description's stacks. A number has one place, that of the
 -- stack that holds it, so the place of a made value is known from its number; its bits are those of kc_bits.
-use Rattle.std.proofs.Common.{◌≡◌, ℕ, ◌+◌, ◌-◌, ◌*◌, ◌/◌, ◌%◌, ◌^◌, ◌<◌, ◌≤◌, ◌⊎◌, ◌==◌, inl, inr, Bool, true, false, cond, List, length, map, get_or, Option, Some, None, refl, sym, ap, ◌∙◌, subst, arith}
+use Rattle.std.proofs.Common.{◌≡◌, ℕ, ◌^◌, ◌<◌, ◌≤◌, ◌==◌, inl, inr, List, length, Option, Some, None, refl, sym, ap, ◌∙◌, subst, arith}
 use Rattle.std.specs.Int.{bit_at}
-use Rattle.std.specs.Prelude.{slice_get}
-use Rattle.std.proofs.lemmas.Bool.{cases_eq, cases_lt, eqb-true}
+use Rattle.std.proofs.lemmas.Bool.{eqb-true}
 use Rattle.std.proofs.lemmas.List.{get_or-map, get_or_past, length-map}
 use Rattle.std.proofs.lemmas.Nat.Bits.{bit_at-zero, bit_at_ones}
 use Rattle.std.proofs.lemmas.Option.{slice_get_cases, get_or_from_slice_get}
@@ -13,7 +12,7 @@ use Rattle.kc_words.specs.Flags.{bits_of, cut}
 use Rattle.kc_words.specs.declared.width.Width.{Width}
 use Rattle.kc_words.specs.declared.width.Width.TheVariants.{Byte, Long, Quad}
 use Rattle.kc_bits.specs.KnownBits.{KnownBits}
-use Rattle.kc_bits.specs.Bits.{IsValid as AreBitsValid, StandsFor, nothing_known, unknown, bits_single, bits_cut, word}
+use Rattle.kc_bits.specs.Bits.{IsValid as AreBitsValid, StandsFor, nothing_known, unknown, bits_single, bits_cut}
 use Rattle.kc_bits.proofs.Cut.{cut_apart, cut_sound}
 use Rattle.kc_bits.proofs.Whole.{known_only}
 use Rattle.kc_regions.specs.Description.{Description}
@@ -23,7 +22,7 @@ use Rattle.kc_regions.specs.declared.region.Region.{Region}
 use Rattle.kc_regions.proofs.LayoutLemmas.{laid}
 use Rattle.kc_rules.proofs.TestLemmas.{chosen}
 use Rattle.kc_value.specs.AbsValue.{AbsValue}
-use Rattle.kc_value.specs.Made.{IsPlace, derived, plain}
+use Rattle.kc_value.specs.Made.{IsPlace, plain}
 use Rattle.kc_value.specs.Place.{no_addresses, stack_at as span_of, HasPlace, place_bit, LiesIn}
 use Rattle.kc_value.specs.Value.{IsValidValue, Represents, all_places, value_top}
 use Rattle.kc_value.specs.declared.env.ValueEnv.{ValueEnv}

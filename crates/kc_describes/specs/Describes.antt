@@ -1,7 +1,7 @@
 -- What an abstract state says of a state of the machine, this project's own: the one relation between the analysis and
 -- the machine. The parts are by what can change them: the chain of activations, live bytes, the processor, the words of
 -- memory.
-use Rattle.std.specs.Prelude.{◌≡◌, ℕ, ◌≤◌, ◌<◌, Bool, true, false, List, Option, Some, None}
+use Rattle.std.specs.Prelude.{◌≡◌, ℕ, ◌≤◌, ◌<◌, Bool, true, false, List, Option}
 use Rattle.kc_insn.specs.declared.insn.Insn.{Insn}
 use Rattle.kc_image.specs.Image.{Contents}
 use Rattle.kc_regions.specs.Description.{Description}

@@ -1,5 +1,5 @@
 -- What is known while a handler runs, this project's own.
-use Rattle.std.specs.Prelude.{◌≡◌, ℕ, ◌+◌, ◌≤◌, List, Option, Some, None}
+use Rattle.std.specs.Prelude.{◌≡◌, ℕ, ◌+◌, ◌≤◌, List, Option, Some}
 use Rattle.kc_bits.specs.Bits.{word}
 use Rattle.kc_insn.specs.declared.insn.Insn.{Insn}
 use Rattle.kc_insn.specs.declared.insn.Insn.TheVariants.{Call as CallInsn}
