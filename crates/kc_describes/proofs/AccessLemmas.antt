@@ -152,27 +152,31 @@ module _ (cfg : Description) (valid : IsValid cfg) (key : Key) (chain : List Act
   read_agrees w (source.Reg r) is = tt
   read_agrees w (source.Imm z) is = tt
   read_agrees w (source.Mem a) is =
-      let r = linear_is cfg valid key chain F typed state slots cpu latch mem next S a is in
-      (record {
-        size = sym (size_is w);
-        touch = refl;
-        no_fetch = λ e. absurd cc;
-        gs = refl;
-        at = λ p e. located_at (linear m a) (machine_operand.linear c a) p r e;
-      }, tt)
+      let r = linear_is cfg valid key chain F typed state slots cpu latch mem next S a is in (
+        record {
+          size = sym (size_is w);
+          touch = refl;
+          no_fetch = λ e. absurd cc;
+          gs = refl;
+          at = λ p e. located_at (linear m a) (machine_operand.linear c a) p r e;
+        },
+        tt,
+      )
 
   write_agrees : (w : Width) (dest : Place) (v : AbsValue) (n : ℕ) → IsOperand (source_of dest)
       → Agree cfg key base (write_of (store_of m w dest v)) (write_access (machine_operand.write_of c w dest n))
   write_agrees w (place.Reg r) v n is = tt
   write_agrees w (place.Mem a) v n is =
-      let r = linear_is cfg valid key chain F typed state slots cpu latch mem next S a is in
-      (record {
-        size = sym (size_is w);
-        touch = refl;
-        no_fetch = λ e. absurd cc;
-        gs = refl;
-        at = λ p e. located_at (linear m a) (machine_operand.linear c a) p r e;
-      }, tt)
+      let r = linear_is cfg valid key chain F typed state slots cpu latch mem next S a is in (
+        record {
+          size = sym (size_is w);
+          touch = refl;
+          no_fetch = λ e. absurd cc;
+          gs = refl;
+          at = λ p e. located_at (linear m a) (machine_operand.linear c a) p r e;
+        },
+        tt,
+      )
 
   -- a result that both sides drop, or both write
   abbrev AreBoth : Option AbsValue → Option ℕ → Type 0
@@ -244,14 +248,16 @@ module _ (cfg : Description) (valid : IsValid cfg) (key : Key) (chain : List Act
 
   push_agrees : (v : AbsValue) (n : ℕ) → Agree cfg key base (write_of (push_of m v)) (write_access (machine.push_of c n))
   push_agrees v n =
-      let u = shifted cfg key rsp_value (neg_ℤ (pos 8)) in
-      (record {
-        size = refl;
-        touch = refl;
-        no_fetch = λ e. absurd cc;
-        gs = refl;
-        at = λ p e. located_at u (machine.pushed_rsp c) p pushed_is (sym (stacked key u (location_of key u)) ∙ e);
-      }, tt)
+      let u = shifted cfg key rsp_value (neg_ℤ (pos 8)) in (
+        record {
+          size = refl;
+          touch = refl;
+          no_fetch = λ e. absurd cc;
+          gs = refl;
+          at = λ p e. located_at u (machine.pushed_rsp c) p pushed_is (sym (stacked key u (location_of key u)) ∙ e);
+        },
+        tt,
+      )
 
   -- ---- instructions by what they do
 
@@ -372,10 +378,11 @@ module _ (cfg : Description) (valid : IsValid cfg) (key : Key) (chain : List Act
       → Agree cfg key at (stack_read here 0 ∷ write_of (store_of (record here { cpu = with_popped_rsp here }) Quad dest v))
       (machine.stack_read there 0
       ∷ write_access (machine_operand.write_of (record there { cpu = machine.with_popped_rsp there }) Quad dest n))
-  pop_agrees dest v n is =
-      (stack_agrees cfg valid key chain F typed state slots cpu latch mem next S 0 (omega arith),
-        write_agrees cfg valid key chain F typed (with_popped_rsp here) slots (machine.with_popped_rsp there) latch mem next
-        popped_seen Quad dest v n is)
+  pop_agrees dest v n is = (
+    stack_agrees cfg valid key chain F typed state slots cpu latch mem next S 0 (omega arith),
+    write_agrees cfg valid key chain F typed (with_popped_rsp here) slots (machine.with_popped_rsp there) latch mem next
+        popped_seen Quad dest v n is,
+  )
 
   abbrev Agrees : Insn → Type 0
   Agrees insn =
@@ -451,8 +458,16 @@ module _ (cfg : Description) (valid : IsValid cfg) (key : Key) (chain : List Act
 
   pub iret_agrees : Agree cfg key at (accesses_of here Iretq (abs_row here Iretq).store) iret_words
   unfolding abs_row
-  iret_agrees = (word_agrees 0 (omega arith), (word_agrees 1 (omega arith), (word_agrees 2 (omega arith),
-    (word_agrees 3 (omega arith), (word_agrees 4 (omega arith), tt)))))
+  iret_agrees = (
+    word_agrees 0 (omega arith),
+    (
+      word_agrees 1 (omega arith),
+      (
+        word_agrees 2 (omega arith),
+        (word_agrees 3 (omega arith), (word_agrees 4 (omega arith), tt)),
+      ),
+    ),
+  )
     where
       word_agrees : (i : ℕ) → i < 8 → AccessAgrees cfg key at (stack_read here i) (machine.stack_read there i)
       word_agrees i few = stack_agrees cfg valid key chain F typed state slots cpu latch mem next S i few

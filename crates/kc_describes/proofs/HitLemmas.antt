@@ -78,9 +78,9 @@ meets_offset base x n k j low fits_k fits_j inside within =
     let other = same_distance base v u (cast_fits j fits_j) (cast_fits k fits_k) in
     near_or (below_address u v) (below_address v u) n (some_byte x (word (base + u)) n inside)
     (λ far.
-      let apart = common_byte (word (base + u)) (word (base + v)) x n (omega arith) (omega arith) low inside within
-      (omega (arith, one, far)) in
-      omega (arith, other, apart))
+    let apart = common_byte (word (base + u)) (word (base + v)) x n (omega arith) (omega arith) low inside within
+    (omega (arith, one, far)) in
+    omega (arith, other, apart))
 
 -- ---- what kind of place a word is
 
@@ -266,8 +266,8 @@ module _ (cfg : Description) (valid : IsValid cfg) (key : Key) (user_gs : ℕ) (
     λ s none named zone.
         (laid cfg valid).first_byte s at n x placed low
         (λ y here within.
-          let o = open_byte cfg map Write y (may_each cfg map Write at n y placed here h within) in
-          (some_region cfg y o.region o.found, o.unguarded))
+        let o = open_byte cfg map Write y (may_each cfg map Write at n y placed here h within) in
+        (some_region cfg y o.region o.found, o.unguarded))
         inside zone,
   )
   written_hits map (Relative k) n x placed low h inside = (

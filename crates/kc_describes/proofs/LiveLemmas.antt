@@ -48,7 +48,7 @@ clear_each cfg key floors end a (suc n) x fits low h inside =
     elim (cases_eq x a) [
       | inl e ↦ ap (λ z. clear_stack key floors end (stack_of cfg.regions z)) e ∙ p.0
       | inr e ↦ clear_each cfg key floors end (word (a + 1)) n x (omega arith) low p.1
-      (omega (arith, fits, low, inside, e))
+          (omega (arith, fits, low, inside, e))
     ]
 
 -- an end that isn't above a floor isn't above what the floor bounds

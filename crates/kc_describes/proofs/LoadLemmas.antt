@@ -228,5 +228,5 @@ module _ (cfg : Description) (valid : IsValid cfg) (key : Key) (chain : List Act
       → Represents (loaded cfg key l (bits_of w / 8) slots) env (read mem (address_of base l) (bits_of w / 8))
   load_stands w slots count ok stand =
       from_stands w 0 slots (omega (arith, count)) ok (λ j p inside below e.
-        let same : 0 + j ≡ j = omega arith in
-        stand j p (omega (arith, below)) (subst (λ z. word_of cfg key z ≡ Some p) same e))
+      let same : 0 + j ≡ j = omega arith in
+      stand j p (omega (arith, below)) (subst (λ z. word_of cfg key z ≡ Some p) same e))

@@ -21,16 +21,19 @@ pub record IsNear (b x : ℕ) : Type 0 where
 pub near_below : (b x n : ℕ) (k : ℤ) → 2 ^ 63 + 4096 ≤ b → b < 2 ^ 64 → x < 2 ^ 64 → FitsSigned w64 k
     → neg_ℤ (pos 4096) ≤ℤ k → (k +ℤ pos n) ≤ℤ pos 0 → InBytes x (word (b + cast_unsigned w64 k)) n → IsNear b x
 near_below b x n k low high fits signed floor top inside =
-    record { low = omega (arith, ints, low, high, fits, signed, floor, top, inside);
-      high = omega (arith, ints, low, high, fits, signed, floor, top, inside) }
+    record {
+      low = omega (arith, ints, low, high, fits, signed, floor, top, inside);
+      high = omega (arith, ints, low, high, fits, signed, floor, top, inside);
+    }
 
 -- a number in [from, to) that moves up by c and stays at or below the base is in [from, to) again
 pub moved_up_stays : (from to b : ℕ) (k c : ℤ) → 2 ^ 63 ≤ from → from ≤ b → b < to → to < 2 ^ 64 → FitsSigned w64 k
     → c ≤ℤ pos (2 ^ 63) → from ≤ word (b + cast_unsigned w64 k) → pos 0 ≤ℤ c → (k +ℤ c) ≤ℤ pos 0
     → (from ≤ word (b + cast_unsigned w64 (k +ℤ c))) × (word (b + cast_unsigned w64 (k +ℤ c)) < to)
-moved_up_stays from to b k c low above below high fits few at up stays =
-    (omega (arith, ints, low, above, below, high, fits, few, at, up, stays),
-      omega (arith, ints, low, above, below, high, fits, few, at, up, stays))
+moved_up_stays from to b k c low above below high fits few at up stays = (
+  omega (arith, ints, low, above, below, high, fits, few, at, up, stays),
+  omega (arith, ints, low, above, below, high, fits, few, at, up, stays),
+)
 
 -- bytes that don't wrap rise from the first one
 pub rising_byte : (x a n : ℕ) → x < 2 ^ 64 → a < 2 ^ 64 → a + n ≤ 2 ^ 64 → InBytes x a n → (a ≤ x) × (x < a + n)

@@ -84,9 +84,10 @@ present_by : (cfg : Description) (map : MapState) (cr3 : ℕ) (r : Region) → I
     → is_present_under map r ≡ true → (is_present cfg.cpu cr3 r ≡ true) × (is_guard r.kind ≡ false)
 present_by cfg KernelMap cr3 r stands known h =
     let unguarded = not-true (is_guard r.kind) h in (by_kernel cfg KernelMap cr3 r unguarded stands, unguarded)
-present_by cfg UserMap cr3 r stands known h =
-    (either_map cfg UserMap cr3 r h (inr stands),
-      not-true (is_guard r.kind) (and_parts (not (is_guard r.kind)) r.user_map h).0)
+present_by cfg UserMap cr3 r stands known h = (
+  either_map cfg UserMap cr3 r h (inr stands),
+  not-true (is_guard r.kind) (and_parts (not (is_guard r.kind)) r.user_map h).0,
+)
 present_by cfg AnyMap cr3 r stands known h =
     (either_map cfg AnyMap cr3 r h known, not-true (is_guard r.kind) (and_parts (not (is_guard r.kind)) r.user_map h).0)
 
@@ -216,5 +217,5 @@ pub may_whole : (cfg : Description) (map : MapState) (a n : ℕ) (touch : Touch)
 may_whole cfg map a n touch valid fits some h =
     (laid cfg valid).no_wrap a n fits some
     (λ x low inside.
-      let o = open_byte cfg map touch x (may_each cfg map touch a n x fits low h inside) in
-      some_region cfg x o.region o.found)
+    let o = open_byte cfg map touch x (may_each cfg map touch a n x fits low h inside) in
+    some_region cfg x o.region o.found)

@@ -157,11 +157,11 @@ module _ (cfg : Description) (valid : IsValid cfg) (key : Key) (chain : List Act
       cond_both (is_only_stack v.stacks key.stack && (has_no_base key.base && (up && stops))) v.stacks all_places
       (λ set. LiesIn set env.stacks target)
       (λ h.
-        let p = and_parts (is_only_stack v.stacks key.stack) (has_no_base key.base && (up && stops)) h in
-        let q = and_parts (has_no_base key.base) (up && stops) p.1 in
-        let t = and_parts up stops q.1 in
-        stays_in v n k c r fits sum move is (own_place key v.stacks key.stack refl p.0) (none_based key.base q.0)
-        (int_le-true (pos 0) c t.0) (int_le-true (k +ℤ c) (pos 0) t.1))
+      let p = and_parts (is_only_stack v.stacks key.stack) (has_no_base key.base && (up && stops)) h in
+      let q = and_parts (has_no_base key.base) (up && stops) p.1 in
+      let t = and_parts up stops q.1 in
+      stays_in v n k c r fits sum move is (own_place key v.stacks key.stack refl p.0) (none_based key.base q.0)
+      (int_le-true (pos 0) c t.0) (int_le-true (k +ℤ c) (pos 0) t.1))
       (λ h. anywhere cfg valid env refl target)
 
   by_symbol : (v : AbsValue) (n : ℕ) (c : ℤ) (s : Sym) → IsValidValue v → n < 2 ^ 64 → Represents v env n → IsMove c
@@ -172,12 +172,12 @@ module _ (cfg : Description) (valid : IsValid cfg) (key : Key) (chain : List Act
       cond_both (is_offset (k +ℤ c)) (based (k +ℤ c) (shifted_places key v.stacks c (k +ℤ c))) (moved_bits cfg v c)
       (λ z. Represents z env target)
       (λ h.
-        let sum = offset_fits cfg valid (k +ℤ c) h in
-        record {
-          symbol = moved_sum base n k c sym_fits sum move names;
-          bits = nothing_stands target;
-          place = moved_places v n k c r sym_fits sum move names;
-        })
+      let sum = offset_fits cfg valid (k +ℤ c) h in
+      record {
+        symbol = moved_sum base n k c sym_fits sum move names;
+        bits = nothing_stands target;
+        place = moved_places v n k c r sym_fits sum move names;
+      })
       (λ h. bits_moved v n c ok fits r move)
   by_symbol v n c Plain ok fits r move sym_fits names = bits_moved v n c ok fits r move
   by_symbol v n c (Entry w) ok fits r move sym_fits names = bits_moved v n c ok fits r move

@@ -135,11 +135,11 @@ module _ (cfg : Description) (valid : IsValid cfg) (key : Key) (chain : List Act
     missed i p below e none x low within =
         write_elsewhere mem (address_of base l) n w x (address_fits base l (placed_fits cfg key base l placed)) low
         (λ inside.
-          let hitting = written_hits cfg valid key env.user_gs (newest_of chain) F.fits base_fits map l n x placed low h
-          inside in
-          let hit = hits_cover cfg valid key env.user_gs (newest_of chain) F.fits base_fits
-          (location_stack cfg key (Some l)) l p n i x low below hitting e within in
-          false≢true (sym none ∙ hit))
+        let hitting = written_hits cfg valid key env.user_gs (newest_of chain) F.fits base_fits map l n x placed low h
+        inside in
+        let hit = hits_cover cfg valid key env.user_gs (newest_of chain) F.fits base_fits
+        (location_stack cfg key (Some l)) l p n i x low below hitting e within in
+        false≢true (sym none ∙ hit))
 
     taken : (i : ℕ) (p : Location) → i < slot_count → word_of cfg key i ≡ Some p
         → is_just l n (word_of cfg key i) ≡ true → WordStands env after new p
@@ -217,11 +217,11 @@ module _ (cfg : Description) (valid : IsValid cfg) (key : Key) (chain : List Act
       → SlotsStand cfg key env slots mem → SlotsStand cfg key env (redone (used cfg key l depth) 0 slots) mem
   used_stands l depth slots mem count stand =
       untouched slots mem mem (used cfg key l depth) count stand (λ i p v below e.
-        let hit = hits cfg key (location_stack cfg key (Some l)) (moved_down l depth) depth i in
-        elim (cases_Bool hit) [
-          | inl top ↦ inl (cond-true hit value_top v top)
-          | inr none ↦ inr (cond-false hit value_top v none, λ x low within. refl)
-        ])
+      let hit = hits cfg key (location_stack cfg key (Some l)) (moved_down l depth) depth i in
+      elim (cases_Bool hit) [
+        | inl top ↦ inl (cond-true hit value_top v top)
+        | inr none ↦ inr (cond-false hit value_top v none, λ x low within. refl)
+      ])
 
   pub used_top : (l : Location) (depth i : ℕ) → used cfg key l depth i value_top ≡ value_top
   used_top l depth i =

@@ -84,7 +84,7 @@ module _ (cfg : Description) (valid : IsValid cfg) where
         sym_fits = offset_fits (k +ℤ c) h;
         bits_fit = none_valid;
         stacks_fit = places_fit (is_only_stack v.stacks key.stack && (has_no_base key.base && (int_le (pos 0) c
-        && int_le (k +ℤ c) (pos 0)))) v.stacks ok.stacks_fit;
+            && int_le (k +ℤ c) (pos 0)))) v.stacks ok.stacks_fit;
       })
       (λ h. moved_valid v c)
   shifted_by key v c Plain ok = moved_valid v c
