@@ -16,3 +16,4 @@ pub mod OperandLemmas
 pub mod AccessLemmas
 pub mod QuietLemmas
 pub mod FrameLemmas
+pub mod LawLemmas

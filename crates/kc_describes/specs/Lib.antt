@@ -8,3 +8,4 @@ pub mod Inside
 pub mod Describes
 pub mod User
 pub mod Returned
+pub mod Laws
