@@ -3,6 +3,7 @@ pub mod GateLemmas
 pub mod RegionLemmas
 pub mod ByteLemmas
 pub mod WordLemmas
+pub mod RowLemmas
 pub mod FaultLemmas
 pub mod EntryForms
 pub mod ReturnForms

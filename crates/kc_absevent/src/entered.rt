@@ -1,14 +1,17 @@
 //! What is known where an event or SYSCALL enters the kernel. This project's own.
 
-ghost use Rattle.std.specs.Prelude.{◌≡◌, Option};
+ghost use Rattle.std.specs.Prelude.{◌≡◌, get_or, Option};
 ghost use Rattle.kc_bits.specs.Bits.{all_of, bits_and, flipped};
 ghost use Rattle.kc_value.specs.Made.{IsPlace, of_bits};
+ghost use Rattle.kc_value.specs.Value.{value_top};
 ghost use Rattle.kc_state.specs.AbsDelivery.{cleared_flags, entered_latches, entered_slot, entered, entered_key, own_frame, syscall_state, syscall_key};
 
+use crate::covered::Becomes;
 use crate::interrupted::{interrupt_user, place_set, user_flags, user_rip};
 use crate::user::{MACHINE_CHECK, NMI};
 use kc_bits::Bits;
 use kc_frames::{Change, Floors, Slots};
+use kc_lattice::Domain;
 use kc_regions::{Config, Gate};
 use kc_space::{Latches, Tri};
 use kc_state::{AbsState, Interrupted, Key, UserState};
@@ -38,7 +41,8 @@ fn clear_flags(flags: &Bits, cleared: u64) -> Value
     }
 }
 
-fn enter_latches(latches: &Latches, vector: u8) -> Latches
+/// The latches at an entry by the gate of this vector.
+pub(crate) fn enter_latches(latches: &Latches, vector: u8) -> Latches
     ensures { result ≡ entered_latches latches.now vector }
 {
     Latches {
@@ -56,10 +60,19 @@ fn enter_latches(latches: &Latches, vector: u8) -> Latches
     }
 }
 
-// The slots of an entry: those of the frame, from 40 on, have its words.
+/// What is known of RFLAGS at an entry by this gate.
+pub(crate) fn enter_flags(i: &Interrupted, gate: &Gate) -> Value
+    ensures { result ≡ of_bits (bits_and (get_or i.now.frame 2 value_top).bits
+        (all_of (flipped (cleared_flags gate.now.trap)))) }
+{
+    let flags = i.frame[2];
+    clear_flags(&flags.bits, cleared_flags(gate.trap))
+}
+
+/// The slots of an entry: those of the frame, from 40 on, have its words.
 #[derive(Drop)]
-struct Framed<'a> {
-    frame: &'a [Value],
+pub(crate) struct Framed<'a> {
+    pub frame: &'a [Value],
 }
 
 impl<'a> Change<Value> for Framed<'a> {
@@ -76,6 +89,14 @@ impl<'a> Change<Value> for Framed<'a> {
     }
 }
 
+impl<'a> Becomes for Framed<'a> {
+    ghost changed = { λ s. entered_slot s.frame.now };
+
+    fn is_below(&self, i: u16, old: &Value, new: &Value) -> bool {
+        self.at(i, old).leq(new)
+    }
+}
+
 /// The state at an entry by this gate.
 pub(crate) fn enter(
     i: &Interrupted,
@@ -89,8 +110,7 @@ pub(crate) fn enter(
 {
     out.regs = i.regs;
     out.regs[RSP] = *rsp;
-    let flags = i.frame[2];
-    out.flags = clear_flags(&flags.bits, cleared_flags(gate.trap));
+    out.flags = enter_flags(i, gate);
     out.gs = i.gs;
     out.map = i.map;
     out.latches = enter_latches(&i.latches, gate.vector);

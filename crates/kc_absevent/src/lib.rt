@@ -3,8 +3,10 @@
 
 mod accesses;
 mod after;
+mod covered;
 mod delivery;
 mod entered;
+mod entry;
 mod event_set;
 mod events;
 mod faults;
