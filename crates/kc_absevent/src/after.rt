@@ -1,14 +1,18 @@
 //! What is known after the return of an event. This project's own.
 
-ghost use Rattle.std.specs.Prelude.{◌≡◌, ◌<◌, ◌%◌, ◌&&◌, not, Option};
+ghost use Rattle.std.specs.Prelude.{◌≡◌, ◌<◌, ◌%◌, ◌&&◌, not, get_or, Option};
 ghost use Rattle.kc_regions.specs.Region.{stack_of};
 ghost use Rattle.kc_value.specs.Made.{IsPlace};
+ghost use Rattle.kc_value.specs.Value.{value_top};
 ghost use Rattle.kc_state.specs.declared.key.Key.{Key as KeyValue};
 ghost use Rattle.kc_state.specs.AbsEvents.{HasStack};
+ghost use Rattle.kc_state.specs.Location.{location_of};
 ghost use Rattle.kc_state.specs.Memory.{is_same_stack};
+ghost use Rattle.kc_state.specs.State.{state_below};
 ghost use Rattle.kc_state.specs.WellFormed.{IsStateWellFormed};
 ghost use Rattle.kc_state.specs.AbsReturn.{is_clobbered, is_protected, is_offset_protected, loses_bytes, loses_word, loses, kept, returned};
 
+use crate::covered::{Becomes, are_slots_covered};
 use kc_frames::{Change, Clobber};
 use kc_lattice::Domain;
 use kc_regions::Config;
@@ -158,22 +162,44 @@ impl<'a> Change<Value> for Kept<'a> {
     }
 }
 
-// The state after the return.
+impl<'a> Becomes for Kept<'a> {
+    ghost changed = { λ s. kept s.words.cfg.now s.words.key.now s.rsp s.clobber };
+
+    // Most slots are the top, which is above whatever they become.
+    #[tactic(auto, using(crate::proofs::ReturnForms::kept_below_top))]
+    fn is_below(&self, i: u16, old: &Value, new: &Value) -> bool {
+        old.tell();
+        new.is_top() || self.at(i, old).leq(new)
+    }
+}
+
+// What slots with these words become over a return with this summary.
 #[tactic(auto, using(kc_state::proofs::KeyLemmas::key_place))]
+fn kept_by<'a>(words: SlotWords<'a>, state: &AbsState, summary: &Summary) -> Kept<'a>
+    requires stack { HasStack words.cfg.now words.key.now }
+    ensures cfg { result.words.cfg.now ≡ words.entry.cfg.now }
+    ensures key { result.words.key.now ≡ words.entry.key.now }
+    ensures rsp { result.rsp ≡ location_of words.entry.key.now (get_or state.now.regs 4 value_top) }
+    ensures clobber { result.clobber ≡ summary.now.clobber }
+{
+    let key = words.key;
+    words.cfg.tell();
+    Kept {
+        words,
+        rsp: loc(key, &state.regs[RSP]),
+        clobber: summary.clobber,
+        home: is_clobbered(&summary.clobber, key.stack),
+    }
+}
+
+// The state after the return.
 fn put_back(cfg: &Config, key: &Key, state: &AbsState, summary: &Summary, back: &mut AbsState)
     requires stack { HasStack cfg.now key.now }
     ensures { back.new ≡ returned cfg.now key.now state.now summary.now }
 {
-    cfg.tell();
-    let home = is_clobbered(&summary.clobber, key.stack);
     back.copy_from(state);
     back.latches = summary.latches;
-    back.slots.redo(&Kept {
-        words: SlotWords::of(cfg, key),
-        rsp: loc(key, &state.regs[RSP]),
-        clobber: summary.clobber,
-        home,
-    });
+    back.slots.redo(&kept_by(SlotWords::of(cfg, key), state, summary));
 }
 
 /// What is known at the site after an event's return, in `out.back`: the latches are those of the
@@ -195,4 +221,16 @@ pub fn after_return(
         → IsStateWellFormed cfg.now key.now out.new.back }
 {
     put_back(cfg, key, state, summary, &mut out.back);
+}
+
+/// Whether what is known at the site after an event's return is at or below what is known there before:
+/// the latches of the summary, and each slot that the context may have written. It takes no memory.
+#[tactic(auto, using(crate::proofs::ReturnForms::returned_below))]
+pub fn is_state_kept(cfg: &Config, key: &Key, state: &AbsState, summary: &Summary) -> bool
+    requires stack { HasStack cfg.now key.now }
+    ensures value { result ≡ state_below (returned cfg.now key.now state.now summary.now) state.now }
+{
+    state.tell();
+    let kept = kept_by(SlotWords::of(cfg, key), state, summary);
+    summary.latches.leq(&state.latches) && are_slots_covered(&state.slots, &kept, &state.slots)
 }

@@ -1,21 +1,25 @@
 //! The delivery of an event, over abstract states (Intel SDM vol. 3A, "64-Bit Mode Stack Frame" and
 //! "Interrupt Stack Table").
 
-ghost use Rattle.std.specs.Prelude.{◌≡◌, ◌≤◌, ◌&&◌, ◌||◌, not, is_some, true, IsSome, IfSome, IfOk, Option, Some, length};
+ghost use Rattle.std.specs.Prelude.{◌≡◌, ◌≤◌, ◌&&◌, ◌||◌, not, get_or, is_some, true, IsSome, IfSome, IfOk, Option, Some, length};
+ghost use Rattle.std.proofs.Props.{props};
 ghost use Rattle.kc_regions.specs.Lookup.{gate_of};
 ghost use Rattle.kc_regions.specs.Region.{stacks_of};
 ghost use Rattle.kc_value.specs.Made.{IsPlace};
+ghost use Rattle.kc_value.specs.Value.{value_top};
 ghost use Rattle.kc_insn.specs.Encodable.{is_encodable};
 ghost use Rattle.kc_state.specs.AbsEffect.{moment_of};
-ghost use Rattle.kc_state.specs.AbsEvents.{HasStack};
+ghost use Rattle.kc_state.specs.AbsEvents.{HasStack, handler_called_by};
 ghost use Rattle.kc_state.specs.Conditions.{clear_at, is_exact};
 ghost use Rattle.kc_state.specs.Key.{IsKey};
+ghost use Rattle.kc_state.specs.Location.{location_of};
 ghost use Rattle.kc_state.specs.WellFormed.{IsStateWellFormed, IsUserWellFormed};
-ghost use Rattle.kc_state.specs.AbsDelivery.{delivered_from, delivered_at, delivered_below, delivered, delivery, user_delivery, user_entry};
+ghost use Rattle.kc_state.specs.AbsDelivery.{delivered_from, delivered_at, delivered_below, delivered, delivery, interrupted_at, user_delivery, user_entry};
 ghost use Rattle.kc_absevent.specs.Ends.{Delivers};
 
 use crate::accesses::{may_push, may_touch};
-use crate::entered::{enter, enter_key, enter_syscall, own_frame};
+use crate::entered::{enter_key, enter_syscall, own_frame};
+use crate::entry::Entry;
 use crate::events::handler_called_by;
 use crate::floors::put_floor;
 use crate::interrupted::{interrupt_kernel, interrupt_user, is_relative};
@@ -49,16 +53,15 @@ fn gate_at(cfg: &Config, vector: u8) -> Gate
 }
 
 // From a constant base.
-fn deliver_from(
+fn deliver_from<'a>(
     cfg: &Config,
-    i: &Interrupted,
-    slots: &Slots<Value>,
+    i: &'a Interrupted,
+    slots: &'a Slots<Value>,
     gate: &Gate,
     base: u64,
-    out: &mut Scratch,
-) -> Result<Key, Condition>
+) -> Option<Entry<'a>>
     requires ist { gate.now.ist ≤ 7 }
-    ensures { Delivers result out.old out.new (delivered_from cfg.now i.now slots.now gate.now base) }
+    ensures { result ≡ delivered_from cfg.now i.now slots.now gate.now base }
 {
     let key = enter_key(i, gate.vector, Some(base));
     let n = frame_size(gate.vector);
@@ -66,52 +69,59 @@ fn deliver_from(
     if !may_touch(cfg, &key, i.map, gate.vector, word)
         || !may_push(cfg, &key, i.map, &i.floors, base, n)
     {
-        return Err(REFUSED);
+        return None;
     }
-    let rsp = number_value(cfg, base.wrapping_sub(u64::from(n)));
-    enter(i, slots, gate, &rsp, &i.floors, &mut out.out);
-    Ok(key)
+    Some(Entry {
+        key,
+        interrupted: i,
+        slots,
+        gate: *gate,
+        rsp: number_value(cfg, base.wrapping_sub(u64::from(n))),
+        floors: i.floors,
+    })
 }
 
-fn deliver_at(
+fn deliver_at<'a>(
     cfg: &Config,
-    i: &Interrupted,
-    slots: &Slots<Value>,
+    i: &'a Interrupted,
+    slots: &'a Slots<Value>,
     gate: &Gate,
     rsp: Option<u64>,
-    out: &mut Scratch,
-) -> Result<Key, Condition>
+) -> Option<Entry<'a>>
     requires ist { gate.now.ist ≤ 7 }
-    ensures { Delivers result out.old out.new (delivered_at cfg.now i.now slots.now gate.now rsp) }
+    ensures { result ≡ delivered_at cfg.now i.now slots.now gate.now rsp }
 {
     match rsp {
-        Some(n) => deliver_from(cfg, i, slots, gate, align(n), out),
-        None => Err(REFUSED),
+        Some(n) => deliver_from(cfg, i, slots, gate, align(n)),
+        None => None,
     }
 }
 
 // On the interrupted stack, where `clear` says whether the bytes below RSP are.
-fn deliver_below(
+fn deliver_below<'a>(
     cfg: &Config,
-    i: &Interrupted,
-    slots: &Slots<Value>,
+    i: &'a Interrupted,
+    slots: &'a Slots<Value>,
     gate: &Gate,
     clear: bool,
-    out: &mut Scratch,
-) -> Result<Key, Condition>
+) -> Option<Entry<'a>>
     requires stack { IsPlace i.now.stack }
-    ensures { Delivers result out.old out.new (delivered_below cfg.now i.now slots.now gate.now clear) }
+    ensures { result ≡ delivered_below cfg.now i.now slots.now gate.now clear }
 {
     let key = enter_key(i, gate.vector, None);
     if !may_touch(cfg, &key, i.map, gate.vector, None)
         || !(clear && is_stack_present(cfg, i.stack, i.map))
     {
-        return Err(REFUSED);
+        return None;
     }
-    let rsp = own_frame(i.stack, frame_size(gate.vector));
-    let floors = put_floor(&i.floors, i.stack, Floor::Base);
-    enter(i, slots, gate, &rsp, &floors, &mut out.out);
-    Ok(key)
+    Some(Entry {
+        key,
+        interrupted: i,
+        slots,
+        gate: *gate,
+        rsp: own_frame(i.stack, frame_size(gate.vector)),
+        floors: put_floor(&i.floors, i.stack, Floor::Base),
+    })
 }
 
 // Whether the bytes below RSP hold no live one.
@@ -121,30 +131,6 @@ fn is_clear(cfg: &Config, key: &Key, state: &AbsState, rsp: Option<Location>) ->
     match rsp {
         Some(l) => clear(cfg, key, &state.floors, l, 0),
         None => false,
-    }
-}
-
-fn deliver_through(
-    cfg: &Config,
-    key: &Key,
-    site: &Site,
-    state: &AbsState,
-    handler: Option<Handler>,
-    gate: &Gate,
-    out: &mut Scratch,
-) -> Result<Key, Condition>
-    requires ist { gate.now.ist ≤ 7 }
-    requires stack { HasStack cfg.now key.now }
-    ensures { Delivers result out.old out.new (delivered cfg.now key.now site.now state.now handler gate.now) }
-{
-    let i = interrupt_kernel(cfg, key, site, state, handler);
-    let rsp = loc(key, &state.regs[RSP]);
-    if gate.ist == 0 && (site.inside || is_relative(rsp)) {
-        let clear = is_clear(cfg, key, state, rsp);
-        deliver_below(cfg, &i, &state.slots, gate, clear, out)
-    } else {
-        let chosen = choose_rsp(&state.slots, rsp, choose_word(gate.ist, true));
-        deliver_at(cfg, &i, &state.slots, gate, chosen, out)
     }
 }
 
@@ -177,6 +163,105 @@ fn may_deliver(
     is_state_exact(cfg, key, site, state) && (!site.inside || handler.is_some())
 }
 
+/// Kernel code that events interrupt at a site, and what is the same for each of them.
+#[derive(Drop)]
+pub struct Interruption<'a> {
+    pub cfg: &'a Config,
+    pub key: &'a Key,
+    pub site: &'a Site,
+    pub state: &'a AbsState,
+    pub insn: &'a Insn,
+    /// The handler that the instruction calls.
+    handler: Option<Handler>,
+    /// Whether C4 holds, and at an inside site a handler runs.
+    ready: bool,
+    interrupted: Interrupted,
+    rsp: Option<Location>,
+    /// Whether the bytes below RSP hold no live one.
+    clear: bool,
+    ghost its_handler: { handler ≡ handler_called_by cfg.now insn.now },
+    ghost is_ready: { ready ≡ (is_exact (moment_of cfg.now key.now state.now 0) site.now.inside &&
+        (not site.now.inside || is_some handler)) },
+    ghost its_context: { interrupted ≡ interrupted_at cfg.now key.now site.now state.now handler },
+    ghost its_stack: { IsPlace interrupted.stack } by { Prim.hlevel props },
+    ghost its_rsp: { rsp ≡ location_of key.now (get_or state.now.regs 4 value_top) },
+    ghost is_clear: { clear ≡ clear_at (moment_of cfg.now key.now state.now 0) state.now.floors rsp 0 },
+}
+
+impl<'a> Interruption<'a> {
+    /// Kernel code at this site, before the instruction `insn` or inside the handler that it calls.
+    pub fn of(
+        cfg: &'a Config,
+        key: &'a Key,
+        site: &'a Site,
+        state: &'a AbsState,
+        insn: &'a Insn,
+    ) -> Interruption<'a>
+        requires stack { HasStack cfg.now key.now }
+        ensures cfg { result.cfg.now ≡ cfg.now }
+        ensures key { result.key.now ≡ key.now }
+        ensures site { result.site.now ≡ site.now }
+        ensures state { result.state.now ≡ state.now }
+        ensures insn { result.insn.now ≡ insn.now }
+    {
+        let handler = handler_called_by(cfg, insn);
+        let rsp = loc(key, &state.regs[RSP]);
+        Interruption {
+            cfg,
+            key,
+            site,
+            state,
+            insn,
+            handler,
+            ready: may_deliver(cfg, key, site, state, handler),
+            interrupted: interrupt_kernel(cfg, key, site, state, handler),
+            rsp,
+            clear: is_clear(cfg, key, state, rsp),
+        }
+    }
+
+    fn deliver_through<'b>(&'b self, gate: &Gate) -> Option<Entry<'b>>
+        requires ist { gate.now.ist ≤ 7 }
+        ensures { result ≡ delivered self.now.cfg.now self.now.key.now self.now.site.now self.now.state.now
+            self.now.handler gate.now }
+    {
+        let (cfg, i, slots) = (self.cfg, &self.interrupted, &self.state.slots);
+        if gate.ist == 0 && (self.site.inside || is_relative(self.rsp)) {
+            deliver_below(cfg, i, slots, gate, self.clear)
+        } else {
+            let chosen = choose_rsp(slots, self.rsp, choose_word(gate.ist, true));
+            deliver_at(cfg, i, slots, gate, chosen)
+        }
+    }
+
+    /// What the event of this vector enters; none where C4 fails, where at an inside site no handler runs, or where
+    /// there is no permitted frame. It takes no memory.
+    pub fn deliver<'b>(&'b self, vector: u8) -> Option<Entry<'b>>
+        requires gate { IsSome (gate_of self.now.cfg.now.gates vector) }
+        ensures value { result ≡ delivery self.now.cfg.now self.now.key.now self.now.site.now self.now.state.now
+            self.now.insn.now vector }
+    {
+        if !self.ready {
+            return None;
+        }
+        let gate = gate_at(self.cfg, vector);
+        self.deliver_through(&gate)
+    }
+}
+
+// The entry, if there is one, with what is known there in `out.out`.
+fn put_entry(entry: Option<Entry>, out: &mut Scratch) -> Result<Key, Condition>
+    ensures { Delivers result out.old out.new entry.entry }
+{
+    match entry {
+        Some(entry) => {
+            entry.put(&mut out.out);
+            Ok(entry.key)
+        }
+        None => Err(REFUSED),
+    }
+}
+
 /// Delivers the event of this vector at a site: the context that is entered and, in `out.out`, what is
 /// known there. C14 comes exactly where there is no permitted frame, and then `out` is as before. The
 /// key keeps the rules of keys, and where `state` is well-formed for `key`, the entry state is for the
@@ -199,12 +284,8 @@ pub fn deliver_abs(
         → IfOk result (λ k. IsStateWellFormed cfg.now k out.new.out) }
 {
     cfg.tell();
-    let handler = handler_called_by(cfg, insn);
-    if !may_deliver(cfg, key, site, state, handler) {
-        return Err(REFUSED);
-    }
-    let gate = gate_at(cfg, vector);
-    deliver_through(cfg, key, site, state, handler, &gate, out)
+    let interruption = Interruption::of(cfg, key, site, state, insn);
+    put_entry(interruption.deliver(vector), out)
 }
 
 fn deliver_user_vector(
@@ -219,7 +300,7 @@ fn deliver_user_vector(
     let gate = gate_at(cfg, vector);
     let i = interrupt_user(cfg, user);
     let chosen = choose_rsp(&user.slots, None, choose_word(gate.ist, false));
-    deliver_at(cfg, &i, &user.slots, &gate, chosen, out)
+    put_entry(deliver_at(cfg, &i, &user.slots, &gate, chosen), out)
 }
 
 /// The same while the user runs; None is SYSCALL, which always enters.

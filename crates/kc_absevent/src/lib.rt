@@ -16,8 +16,9 @@ mod return_test;
 mod stack;
 mod user;
 
-pub use after::after_return;
-pub use delivery::{deliver_abs, deliver_user};
+pub use after::{after_return, is_state_kept};
+pub use delivery::{Interruption, deliver_abs, deliver_user};
+pub use entry::Entry;
 pub use event_set::EventSet;
 pub use events::events_at;
 pub use return_test::return_ok;

@@ -17,4 +17,4 @@ returns c =
     (λ j. delivered_at d (c.interrupt_user-i.ensures.value j) u.slots gate (rsp j))
     ∙ sym (ap (by_gate (λ (g : Gate). delivered_at d (interrupted_user d u) u.slots g
     (chosen_rsp u.slots None (stack_taken g.ist false)))) c.gate_at-gate.ensures.gate) in
-    subst (Delivers c.deliver_at.result c.args.out.now c.deliver_at.new.out) same c.deliver_at.ensures
+    subst (Delivers c.put_entry.result c.args.out.now c.put_entry.new.out) (c.deliver_at.ensures ∙ same) c.put_entry.ensures
