@@ -1,7 +1,7 @@
 -- The eight bytes of a word at a multiple of 8 lie in the stack of its first byte, or in none as that does, since
 -- stacks begin and end at multiples of 16: so the first byte decides whether the word may have changed. The walk over
 -- the bytes asks the same test at each, and the sum of one answer with itself is that answer.
-use Rattle.std.proofs.Common.{◌≡◌, ℕ, zero, suc, ◌+◌, ◌-◌, ◌%◌, ◌^◌, ◌<◌, ◌≤◌, Bool, true, false, ◌&&◌, ◌||◌, Option, Some, None, refl, sym, ap, ◌∙◌, arith}
+use Rattle.std.proofs.Common.{◌≡◌, ℕ, zero, suc, ◌+◌, ◌%◌, ◌^◌, ◌<◌, ◌≤◌, Bool, true, false, ◌&&◌, ◌||◌, Option, Some, None, refl, sym, ap, ◌∙◌, arith}
 use Rattle.std.specs.Prelude.{not}
 use Rattle.kc_bits.specs.Bits.{word}
 use Rattle.kc_frames.specs.ClobberSets.{ClobberSets}

@@ -199,7 +199,8 @@ fn put_back(cfg: &Config, key: &Key, state: &AbsState, summary: &Summary, back: 
 {
     back.copy_from(state);
     back.latches = summary.latches;
-    back.slots.redo(&kept_by(SlotWords::of(cfg, key), state, summary));
+    back.slots
+        .redo(&kept_by(SlotWords::of(cfg, key), state, summary));
 }
 
 /// What is known at the site after an event's return, in `out.back`: the latches are those of the

@@ -69,6 +69,13 @@ impl<'a> Entry<'a> {
     pub(crate) fn put(&self, state: &mut AbsState)
         ensures { state.new ≡ self.now.1 }
     {
-        enter(self.interrupted, self.slots, &self.gate, &self.rsp, &self.floors, state);
+        enter(
+            self.interrupted,
+            self.slots,
+            &self.gate,
+            &self.rsp,
+            &self.floors,
+            state,
+        );
     }
 }

@@ -1,8 +1,12 @@
 -- C14 to C16 at a node, whose events are asked in one pass. This project's own.
 use Rattle.std.specs.Prelude.{◌≡◌, ℕ, Bool, true, cond, Option, Some, None, Result, Ok, Err}
+use Rattle.kc_absevent.specs.declared.delivery.Interruption.{Interruption}
 use Rattle.kc_image.specs.Image.{Contents}
 use Rattle.kc_regions.specs.Description.{Description}
 use Rattle.kc_rules.specs.Rules.{◌>>=◌}
+use Rattle.kc_state.specs.AbsDelivery.{delivery}
+use Rattle.kc_state.specs.declared.key.Key.{Key}
+use Rattle.kc_state.specs.declared.state.AbsState.{AbsState}
 use Rattle.kc_state.specs.declared.summary.Summary.{Summary}
 use Rattle.kc_cert.specs.Conditions.{is_event_counted, is_event_covered, is_kept, is_return_covered}
 use Rattle.kc_cert.specs.FirstRefusal.{at_event, demand, each}
@@ -18,6 +22,10 @@ events_refusal image d cert c n p = do
   ok ← each (λ v. demand (is_event_covered d cert p v) (at_event n 14 v)) (events_of d p)
   ok ← each (λ v. demand (is_return_covered image d cert p v) (at_event n 15 v)) (events_of d p)
   each (λ v. demand (is_event_counted image d cert c.summary.clobber p v) (at_event n 16 v)) (events_of d p)
+
+-- what the event of vector v enters that interrupts here
+abbrev pub entered_at : Interruption → ℕ → Option (Key × AbsState)
+entered_at i v = delivery i.cfg.now i.key.now i.site.now i.state.now i.insn.now v
 
 -- the first event at which a condition failed so far, after it is asked at v
 abbrev pub first_failed : Option ℕ → Bool → ℕ → Option ℕ

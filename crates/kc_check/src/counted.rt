@@ -42,11 +42,15 @@ fn is_counted_at(table: &Table, context: &Context, node: &Node) -> bool
     }
 }
 
-// C17 at a node, where there is an instruction.
+// C17 at a node, where there is an instruction: a context that interrupts the kernel doesn't return to the user.
+#[tactic(auto, using(crate::proofs::CountedLemmas::kernel_covered))]
 fn is_covered_at(table: &Table, context: &Context, node: &Node) -> bool
     ensures { result ≡ of_insn (is_user_covered table.now.cert.now) context.now node.now
         (insn_at table.now.image.now node.now.site.at) }
 {
+    if context.key.kernel {
+        return true;
+    }
     match place(table.image, context, node) {
         Some(p) => is_user_covered(table.cert, &p),
         None => true,

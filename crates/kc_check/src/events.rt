@@ -1,46 +1,44 @@
 //! C14 to C16 at a node: each event has a permitted frame and a context that covers it, the state after its return is
 //! covered, and the summary covers what its context may write. This project's own.
 
-ghost use Rattle.std.specs.Prelude.{◌≡◌, ◌<◌, false, true, Some, None, IfErr, IfOk, IfSome, IsSome, IsTrue, is_some, length};
-ghost use Rattle.kc_cert.specs.Conditions.{is_event_counted, is_event_covered, is_kept, is_return_covered, number_entered};
+ghost use Rattle.std.specs.Prelude.{◌≡◌, ℕ, ◌<◌, false, true, Some, None, IfErr, IfOk, IfSome, IsSome, IsTrue, is_some, length};
+ghost use Rattle.kc_cert.specs.Conditions.{is_entry_covered, is_event_counted, is_event_covered, is_kept, is_return_covered, number_entered};
 ghost use Rattle.kc_cert.specs.FirstRefusal.{at_event};
 ghost use Rattle.kc_cert.specs.Placed.{entered_by};
-ghost use Rattle.kc_check.specs.Events.{IsKept, events_refusal, failed_refusal, first_failed};
+ghost use Rattle.kc_check.specs.Events.{IsKept, entered_at, events_refusal, failed_refusal, first_failed};
 ghost use Rattle.kc_frames.specs.Clobber.{clobber_below};
 ghost use Rattle.kc_regions.specs.Lookup.{gate_of};
 ghost use Rattle.kc_state.specs.AbsEvents.{HasStack};
 
 use crate::refused::at_event;
 use crate::table::Table;
-use kc_absevent::{after_return, deliver_abs, events_at};
+use kc_absevent::{Interruption, events_at, is_state_kept};
 use kc_cert::{Context, Node, Refusal};
 use kc_frames::Clobber;
 use kc_lattice::Domain;
 use kc_placed::PlacedNode;
-use kc_state::{Condition, Scratch, Summary};
+use kc_state::{Condition, Summary};
 
 /// The context that an event enters, where its frame is permitted and the context covers it.
-fn enter(table: &Table, p: &PlacedNode, vector: u8, out: &mut Scratch) -> Option<u32>
-    requires stack { HasStack table.now.cfg.now p.now.key }
-    requires gate { IsSome (gate_of table.now.cfg.now.gates vector) }
-    ensures covered { is_some result ≡ is_event_covered table.now.cfg.now table.now.cert.now p.now vector }
-    ensures entered { IfSome result (λ i. number_entered table.now.cert.now
-        (entered_by table.now.cfg.now p.now vector) ≡ Some i) }
+fn enter(table: &Table, interruption: &Interruption, vector: u8) -> Option<u32>
+    requires gate { IsSome (gate_of interruption.now.cfg.now.gates vector) }
+    ensures covered { is_some result
+        ≡ is_entry_covered table.now.cfg.now table.now.cert.now (entered_at interruption.now vector) }
+    ensures entered { IfSome result (λ i. number_entered table.now.cert.now (entered_at interruption.now vector) ≡ Some i) }
     ensures within { IfSome result (λ i. i < length table.now.cert.now.contexts) }
 {
-    match deliver_abs(table.cfg, p.key, &p.site, p.state, &p.insn, vector, out) {
-        Ok(key) => table.entered(&key, &out.out),
-        Err(_) => None,
+    match interruption.deliver(vector) {
+        Some(entry) => table.admit(&entry),
+        None => None,
     }
 }
 
 // Whether the state after the return covers nothing new.
-fn is_kept(table: &Table, p: &PlacedNode, summary: &Summary, out: &mut Scratch) -> bool
+fn is_kept(table: &Table, p: &PlacedNode, summary: &Summary) -> bool
     requires stack { HasStack table.now.cfg.now p.now.key }
     ensures { result ≡ is_kept table.now.cfg.now p.now (Some summary.now) }
 {
-    after_return(table.cfg, p.key, &p.site, p.state, summary, out);
-    out.back.leq(p.state)
+    is_state_kept(table.cfg, p.key, p.state, summary)
 }
 
 /// What was found of the events that were asked: the first ones that fail C15 and C16, and the last summary with which
@@ -62,14 +60,7 @@ fn is_last(last: Option<Summary>, summary: &Summary) -> bool
 }
 
 // C15 of event `vector`, whose context has this summary, where no event has failed it.
-fn ask_first(
-    table: &Table,
-    p: &PlacedNode,
-    summary: &Summary,
-    vector: u8,
-    asked: Asked,
-    out: &mut Scratch,
-) -> Asked
+fn ask_first(table: &Table, p: &PlacedNode, summary: &Summary, vector: u8, asked: Asked) -> Asked
     requires stack { HasStack table.now.cfg.now p.now.key }
     requires last { IfSome asked.last (IsKept table.now.cfg.now p.now) }
     requires none { asked.kept ≡ None }
@@ -80,7 +71,7 @@ fn ask_first(
     if is_last(asked.last, summary) {
         return asked;
     }
-    if is_kept(table, p, summary, out) {
+    if is_kept(table, p, summary) {
         Asked {
             kept: None,
             counted: asked.counted,
@@ -96,14 +87,7 @@ fn ask_first(
 }
 
 // C15 of event `vector`, whose context has this summary.
-fn ask_kept(
-    table: &Table,
-    p: &PlacedNode,
-    summary: &Summary,
-    vector: u8,
-    asked: Asked,
-    out: &mut Scratch,
-) -> Asked
+fn ask_kept(table: &Table, p: &PlacedNode, summary: &Summary, vector: u8, asked: Asked) -> Asked
     requires stack { HasStack table.now.cfg.now p.now.key }
     requires last { IfSome asked.last (IsKept table.now.cfg.now p.now) }
     ensures kept { result.kept ≡ first_failed asked.kept (is_kept table.now.cfg.now p.now (Some summary.now)) vector }
@@ -112,7 +96,7 @@ fn ask_kept(
 {
     match asked.kept {
         Some(_) => asked,
-        None => ask_first(table, p, summary, vector, asked, out),
+        None => ask_first(table, p, summary, vector, asked),
     }
 }
 
@@ -145,7 +129,6 @@ fn ask_return(
     vector: u8,
     i: u32,
     asked: Asked,
-    out: &mut Scratch,
 ) -> Asked
     requires stack { HasStack table.now.cfg.now p.now.key }
     requires entered { number_entered table.now.cert.now (entered_by table.now.cfg.now p.now vector) ≡ Some i }
@@ -160,7 +143,7 @@ fn ask_return(
     match table.summary_of(i) {
         Some(summary) => {
             let counted = counted_after(clobber, summary, vector, asked.counted);
-            let next = ask_kept(table, p, summary, vector, asked, out);
+            let next = ask_kept(table, p, summary, vector, asked);
             Asked {
                 kept: next.kept,
                 counted,
@@ -177,12 +160,13 @@ fn ask_event(
     context: &Context,
     node: &Node,
     p: &PlacedNode,
+    interruption: &Interruption,
     vector: u8,
     asked: Asked,
-    out: &mut Scratch,
 ) -> Result<Asked, Refusal>
     requires stack { HasStack table.now.cfg.now p.now.key }
-    requires gate { IsSome (gate_of table.now.cfg.now.gates vector) }
+    requires here { (v : ℕ) → entered_at interruption.now v ≡ entered_by table.now.cfg.now p.now v }
+    requires gate { IsSome (gate_of interruption.now.cfg.now.gates vector) }
     requires last { IfSome asked.last (IsKept table.now.cfg.now p.now) }
     ensures covered { IfOk result (λ _. is_event_covered table.now.cfg.now table.now.cert.now p.now vector ≡ true) }
     ensures kept { IfOk result (λ next. next.kept ≡ first_failed asked.kept
@@ -195,8 +179,8 @@ fn ask_event(
         (λ _. is_event_covered table.now.cfg.now table.now.cert.now p.now vector ≡ false) }
     ensures refused { IfErr result (λ r. r ≡ at_event node.now 14 vector) }
 {
-    match enter(table, p, vector, out) {
-        Some(i) => Ok(ask_return(table, &context.summary.clobber, p, vector, i, asked, out)),
+    match enter(table, interruption, vector) {
+        Some(i) => Ok(ask_return(table, &context.summary.clobber, p, vector, i, asked)),
         None => Err(at_event(node, Condition::EVENT_COVERED, vector)),
     }
 }
@@ -217,12 +201,12 @@ pub(crate) fn check_events(
     context: &Context,
     node: &Node,
     p: &PlacedNode,
-    out: &mut Scratch,
 ) -> Result<(), Refusal>
     requires stack { HasStack table.now.cfg.now p.now.key }
     ensures { result ≡ events_refusal table.now.image.now table.now.cfg.now table.now.cert.now context.now node.now p.now }
 {
     let events = events_at(table.cfg, p.key, &p.site, p.state, &p.insn, p.len);
+    let interruption = Interruption::of(table.cfg, p.key, &p.site, p.state, &p.insn);
     let mut asked = Asked {
         kept: None,
         counted: None,
@@ -230,7 +214,7 @@ pub(crate) fn check_events(
     };
     for vector in table.vectors.as_slice() {
         if events.has(*vector) {
-            asked = ask_event(table, context, node, p, *vector, asked, out)?;
+            asked = ask_event(table, context, node, p, &interruption, *vector, asked)?;
         }
     }
     answer(node, asked)

@@ -33,7 +33,7 @@ fn check_placed(
     };
     let covered = are_covered(table, node.context, p, succ, &out.out);
     demand(covered, at_node(node, Condition::SUCCESSOR_COVERED))?;
-    check_events(table, context, node, p, out)
+    check_events(table, context, node, p)
 }
 
 pub(crate) fn check_node(

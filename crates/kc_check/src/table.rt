@@ -8,6 +8,7 @@ ghost use Rattle.kc_cert.specs.Placed.{vectors_in_order};
 ghost use Rattle.kc_cert.specs.Table.{covers, number_of};
 
 use crate::returning::Returning;
+use kc_absevent::Entry;
 use kc_cert::{Certificate, entry_site, node_at, number_of};
 use kc_image::Image;
 use kc_lattice::Domain;
@@ -65,6 +66,33 @@ impl<'a> Table<'a> {
         let i = number_of(self.cert, key)?;
         let site = entry_site(self.cfg, key)?;
         if self.covers(i, &site, state) {
+            Some(i)
+        } else {
+            None
+        }
+    }
+
+    // Whether context `i` has a node at the site whose state is at or above what is known at the entry.
+    fn covers_entry(&self, i: u32, site: &Site, entry: &Entry) -> bool
+        ensures { result ≡ covers self.now.cert.now i site.now entry.now.1 }
+    {
+        match node_at(self.cert, i, site) {
+            Some(node) => entry.is_below(&node.state),
+            None => false,
+        }
+    }
+
+    /// The same of what an event enters.
+    pub(crate) fn admit(&self, entry: &Entry) -> Option<u32>
+        ensures found { IfSome result (λ i. number_of self.now.cert.now entry.now.0 ≡ Some i) }
+        ensures within { IfSome result (λ i. i < length self.now.cert.now.contexts) }
+        ensures covered { is_some result ≡ covers_entry self.now.cfg.now self.now.cert.now entry.now.0 entry.now.1
+            (number_of self.now.cert.now entry.now.0) }
+    {
+        let key = entry.key;
+        let i = number_of(self.cert, &key)?;
+        let site = entry_site(self.cfg, &key)?;
+        if self.covers_entry(i, &site, entry) {
             Some(i)
         } else {
             None

@@ -2,10 +2,13 @@
 -- refused by C14 or kept where C15 or C16 fails.
 use Rattle.std.proofs.Common.{◌≡◌, ℕ, ◌+◌, ◌<◌, ◌≤◌, Bool, true, false, List, None, Err, length, get_or, drop, sym, ap, ◌∙◌, subst, arith}
 use Rattle.std.proofs.lemmas.Result.{err_from_is_err_and}
-use Rattle.std.specs.Prelude.{IfSome}
+use Rattle.std.specs.Prelude.{IfSome, is_some}
 use Rattle.kc_absevent.specs.Sets.{IsSetOf, has_vector}
+use Rattle.kc_regions.specs.Description.{Description}
+use Rattle.kc_regions.specs.Lookup.{gate_of}
+use Rattle.kc_state.specs.AbsDelivery.{delivery}
 use Rattle.kc_state.specs.AbsEvents.{comes}
-use Rattle.kc_cert.specs.Placed.{Placed}
+use Rattle.kc_cert.specs.Placed.{Placed, entered_by}
 use Rattle.kc_check.specs.declared.events.Asked.{Asked}
 use Rattle.kc_check.specs.Events.{IsKept}
 use Rattle.kc_check.proofs.EventLemmas.{AtNode, comes_by_gate, events_left, left-all, left-end, left-failed, left-next, left-skipped, may_come}
@@ -34,6 +37,13 @@ loop-vector-init c =
       last = tt;
     }
 
+pub ask_event-requires-clause-here : goal.ask_event-requires-clause-here
+ask_event-requires-clause-here c =
+    let d = c.args.table.now.cfg.now in
+    let of = c.of-interruption.ensures in
+    λ v. (λ j. delivery (of.cfg j) (of.key j) (of.site j) (of.state j) (of.insn j) v)
+    ∙ ap (λ (p : Placed). entered_by d p v) c.p.view_is
+
 pub ask_event-requires-clause-gate : goal.ask_event-requires-clause-gate
 ask_event-requires-clause-gate c =
     let t = c.args.table.now in
@@ -44,7 +54,8 @@ ask_event-requires-clause-gate c =
     let below : v < 256 = omega (arith, c.type_inv.vector-items i) in
     let comes_here : comes t.cfg.now p.key.now p.site p.state.now p.insn p.len v ≡ true =
     sym (c.events_at-events.ensures.value v below) ∙ sym c.has.ensures.value ∙ c.if-has.true in
-    comes_by_gate _ _ comes_here
+    subst (λ (d : Description). is_some (gate_of d.gates v) ≡ true) (sym c.of-interruption.ensures.cfg)
+    (comes_by_gate _ _ comes_here)
 
 pub returns-in_err-asked : goal.returns-in_err-asked
 returns-in_err-asked c =
