@@ -1,4 +1,4 @@
-use Rattle.std.proofs.Common.{◌≡◌, Option, Some, None, sym, ap, ◌∙◌}
+use Rattle.std.proofs.Common.{◌≡◌, Option, Some, sym, ap, ◌∙◌}
 use Rattle.kc_cert.specs.Conditions.{event_summary, holds_clobber, is_kept, summary_of}
 use Rattle.kc_check.specs.Events.{first_failed}
 use Rattle.kc_state.specs.declared.summary.Summary.{Summary}

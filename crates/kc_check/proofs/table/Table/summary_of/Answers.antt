@@ -1,7 +1,6 @@
-use Rattle.std.proofs.Common.{◌≡◌, Bool, true, false, Option, sym, ap, ◌∙◌}
+use Rattle.std.proofs.Common.{◌≡◌, Bool, false, sym, ap, ◌∙◌}
 use Rattle.std.specs.Prelude.{slice_get}
 use Rattle.kc_cert.specs.Conditions.{returns, summary_if}
-use Rattle.kc_cert.specs.declared.certificate.Context.{Context}
 use Rattle.kc_check.proofs.table.Table.summary_of.Goals as goal
 
 -- a context without a mark doesn't return
