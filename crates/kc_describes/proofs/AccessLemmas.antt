@@ -1,6 +1,6 @@
 -- The data accesses of an instruction, on both sides in one order: the reads of its operands or of the stack, and then
 -- its write. Each abstract access has the size, the right and the prefix of the machine's, and where its place is known
--- it is the machine's address. By cases on the instruction; the descriptors that an IRETQ reads have no abstract access.
+-- it is the machine's address. By cases on the instruction; descriptors that an IRETQ reads have no abstract access.
 use Rattle.std.proofs.Common.{◌≡◌, ◌≢◌, ℕ, ◌+◌, ◌*◌, ◌%◌, ◌^◌, ◌<◌, ◌&&◌, ◌==◌, inl, List, [], ◌∷◌, ◌++◌, All, Option, Some, None, ℤ, pos, neg_ℤ, slice_index, bit_and, refl, sym, ap, ◌∙◌, subst, arith}
 use Rattle.std.specs.Prelude.{FitsSigned}
 use Rattle.std.specs.Int.{w64, cast_unsigned, cast_signed, int_wrapping_add}
@@ -37,7 +37,7 @@ use Rattle.kc_exec.specs.Effect as effect
 use Rattle.kc_exec.specs.Effect.{row}
 use Rattle.kc_exec.specs.Execution.{write_access, data_accesses}
 use Rattle.kc_exec.specs.Moment.{Moment}
-use Rattle.kc_exec.specs.Operand as machine_operand
+use Rattle.kc_exec.specs.Operand as operands
 use Rattle.kc_value.specs.AbsValue.{AbsValue}
 use Rattle.kc_value.specs.declared.env.ValueEnv.{ValueEnv}
 use Rattle.kc_state.specs.AbsEffect.{AbsChange, abs_row, store_of, operated, alu_change, alu_result, bit_result, cancels, is_same_reg, on_stack, push_of, stack_word, with_popped_rsp}
@@ -148,7 +148,7 @@ module _ (cfg : Description) (valid : IsValid cfg) (key : Key) (chain : List Act
   -- ---- operands
 
   read_agrees : (w : Width) (src : Source) → IsOperand src
-      → Agree cfg key base (read_of m w src) (machine_operand.reads_of c w src)
+      → Agree cfg key base (read_of m w src) (operands.reads_of c w src)
   read_agrees w (source.Reg r) is = tt
   read_agrees w (source.Imm z) is = tt
   read_agrees w (source.Mem a) is =
@@ -158,13 +158,13 @@ module _ (cfg : Description) (valid : IsValid cfg) (key : Key) (chain : List Act
           touch = refl;
           no_fetch = λ e. absurd cc;
           gs = refl;
-          at = λ p e. located_at (linear m a) (machine_operand.linear c a) p r e;
+          at = λ p e. located_at (linear m a) (operands.linear c a) p r e;
         },
         tt,
       )
 
   write_agrees : (w : Width) (dest : Place) (v : AbsValue) (n : ℕ) → IsOperand (source_of dest)
-      → Agree cfg key base (write_of (store_of m w dest v)) (write_access (machine_operand.write_of c w dest n))
+      → Agree cfg key base (write_of (store_of m w dest v)) (write_access (operands.write_of c w dest n))
   write_agrees w (place.Reg r) v n is = tt
   write_agrees w (place.Mem a) v n is =
       let r = linear_is cfg valid key chain F typed state slots cpu latch mem next S a is in (
@@ -173,7 +173,7 @@ module _ (cfg : Description) (valid : IsValid cfg) (key : Key) (chain : List Act
           touch = refl;
           no_fetch = λ e. absurd cc;
           gs = refl;
-          at = λ p e. located_at (linear m a) (machine_operand.linear c a) p r e;
+          at = λ p e. located_at (linear m a) (operands.linear c a) p r e;
         },
         tt,
       )
@@ -186,13 +186,14 @@ module _ (cfg : Description) (valid : IsValid cfg) (key : Key) (chain : List Act
   AreBoth (Some v) None = ⊥
 
   operated_agrees : (w : Width) (dest : Place) (flags : KnownBits) (v : Option AbsValue) (ls : List AbsAccess)
-      (reads : List Access) (f : ℕ) (n : Option ℕ) → IsOperand (source_of dest) → Agree cfg key base ls reads → AreBoth v n
+      (reads : List Access) (f : ℕ) (n : Option ℕ) → IsOperand (source_of dest) → Agree cfg key base ls reads
+      → AreBoth v n
       → Agree cfg key base (ls ++ write_of (operated m w dest flags v).store)
       (data_accesses (machine.operated c w dest reads f n))
   operated_agrees w dest flags None ls reads f None is h both = agree_both cfg key base ls [] reads [] h tt
   operated_agrees w dest flags (Some v) ls reads f (Some n) is h both =
       agree_both cfg key base ls (write_of (store_of m w dest v)) reads
-      (write_access (machine_operand.write_of c w dest n)) h (write_agrees w dest v n is)
+      (write_access (operands.write_of c w dest n)) h (write_agrees w dest v n is)
   operated_agrees w dest flags None ls reads f (Some n) is h both = absurd both
   operated_agrees w dest flags (Some v) ls reads f None is h both = absurd both
 
@@ -246,7 +247,8 @@ module _ (cfg : Description) (valid : IsValid cfg) (key : Key) (chain : List Act
         (push_move cfg valid key chain F);
   }
 
-  push_agrees : (v : AbsValue) (n : ℕ) → Agree cfg key base (write_of (push_of m v)) (write_access (machine.push_of c n))
+  push_agrees : (v : AbsValue) (n : ℕ)
+      → Agree cfg key base (write_of (push_of m v)) (write_access (machine.push_of c n))
   push_agrees v n =
       let u = shifted cfg key rsp_value (neg_ℤ (pos 8)) in (
         record {
@@ -261,52 +263,53 @@ module _ (cfg : Description) (valid : IsValid cfg) (key : Key) (chain : List Act
 
   -- ---- instructions by what they do
 
+  -- the reads of both operands
+  abbrev abs_pair : Width → Place → Source → List AbsAccess
+  abs_pair w dest src = read_of m w (source_of dest) ++ read_of m w src
+
+  abbrev pair : Width → Place → Source → List Access
+  pair w dest src = operands.reads_of c w (source_of dest) ++ operands.reads_of c w src
+
   pair_agrees : (w : Width) (dest : Place) (src : Source) → IsOperand (source_of dest) → IsOperand src
-      → Agree cfg key base (read_of m w (source_of dest) ++ read_of m w src)
-      (machine_operand.reads_of c w (source_of dest) ++ machine_operand.reads_of c w src)
+      → Agree cfg key base (abs_pair w dest src) (pair w dest src)
   pair_agrees w dest src into from =
       agree_both cfg key base (read_of m w (source_of dest)) (read_of m w src)
-      (machine_operand.reads_of c w (source_of dest)) (machine_operand.reads_of c w src)
+      (operands.reads_of c w (source_of dest)) (operands.reads_of c w src)
       (read_agrees w (source_of dest) into) (read_agrees w src from)
 
   pub move_agrees : (w : Width) (dest : Place) (src : Source) (v : AbsValue) (n : ℕ) → IsOperand (source_of dest)
       → IsOperand src
       → Agree cfg key base (read_of m w src ++ write_of (store_of m w dest v))
-      (machine_operand.reads_of c w src ++ write_access (machine_operand.write_of c w dest n))
+      (operands.reads_of c w src ++ write_access (operands.write_of c w dest n))
   move_agrees w dest src v n into from =
-      agree_both cfg key base (read_of m w src) (write_of (store_of m w dest v)) (machine_operand.reads_of c w src)
-      (write_access (machine_operand.write_of c w dest n)) (read_agrees w src from) (write_agrees w dest v n into)
+      agree_both cfg key base (read_of m w src) (write_of (store_of m w dest v)) (operands.reads_of c w src)
+      (write_access (operands.write_of c w dest n)) (read_agrees w src from) (write_agrees w dest v n into)
 
   pub push_all : (src : Source) (v : AbsValue) (n : ℕ) → IsOperand src
       → Agree cfg key base (read_of m Quad src ++ write_of (push_of m v))
-      (machine_operand.reads_of c Quad src ++ write_access (machine.push_of c n))
+      (operands.reads_of c Quad src ++ write_access (machine.push_of c n))
   push_all src v n is =
-      agree_both cfg key base (read_of m Quad src) (write_of (push_of m v)) (machine_operand.reads_of c Quad src)
+      agree_both cfg key base (read_of m Quad src) (write_of (push_of m v)) (operands.reads_of c Quad src)
       (write_access (machine.push_of c n)) (read_agrees Quad src is) (push_agrees v n)
 
   alu_by : (op : AluOp) (w : Width) (dest : Place) (src : Source) (x y : AbsValue) (f i j : ℕ)
       → IsOperand (source_of dest) → IsOperand src
-      → Agree cfg key base ((read_of m w (source_of dest) ++ read_of m w src) ++ write_of (alu_change m op w dest x y).store)
-      (data_accesses (machine.operated c w dest
-      (machine_operand.reads_of c w (source_of dest) ++ machine_operand.reads_of c w src) f (effect.alu_result op w i j)))
+      → Agree cfg key base (abs_pair w dest src ++ write_of (alu_change m op w dest x y).store)
+      (data_accesses (machine.operated c w dest (pair w dest src) f (effect.alu_result op w i j)))
   alu_by op w dest src x y f i j into from =
       operated_agrees w dest
       (alu_flags op (bits_of w) (bits_cut (bits_of w) x.bits) (bits_cut (bits_of w) y.bits) m.cpu.flags.bits)
-      (alu_result m op w x y) (read_of m w (source_of dest) ++ read_of m w src)
-      (machine_operand.reads_of c w (source_of dest) ++ machine_operand.reads_of c w src) f (effect.alu_result op w i j)
-      into (pair_agrees w dest src into from) (alu_both op w x y i j)
+      (alu_result m op w x y) (abs_pair w dest src) (pair w dest src) f (effect.alu_result op w i j) into (pair_agrees w dest src into from) (alu_both op w x y i j)
 
   pub alu_agrees : (op : AluOp) (w : Width) (dest : Place) (src : Source) (f i j : ℕ) → IsOperand (source_of dest)
       → IsOperand src
-      → Agree cfg key base ((read_of m w (source_of dest) ++ read_of m w src) ++ write_of (abs_row m (Alu op w dest src)).store)
-      (data_accesses (machine.operated c w dest
-      (machine_operand.reads_of c w (source_of dest) ++ machine_operand.reads_of c w src) f (effect.alu_result op w i j)))
+      → Agree cfg key base (abs_pair w dest src ++ write_of (abs_row m (Alu op w dest src)).store)
+      (data_accesses (machine.operated c w dest (pair w dest src) f (effect.alu_result op w i j)))
   unfolding abs_row
   alu_agrees op w dest src f i j into from =
       let zero = number_value cfg 0 in
-      let ls = read_of m w (source_of dest) ++ read_of m w src in
-      let done = machine.operated c w dest
-      (machine_operand.reads_of c w (source_of dest) ++ machine_operand.reads_of c w src) f (effect.alu_result op w i j) in
+      let ls = abs_pair w dest src in
+      let done = machine.operated c w dest (pair w dest src) f (effect.alu_result op w i j) in
       cond_both (cancels op && is_same_reg dest src) (alu_change m op w dest zero zero)
       (alu_change m op w dest (destination m w dest) (operand m w src))
       (λ (ch : AbsChange). Agree cfg key base (ls ++ write_of ch.store) (data_accesses done))
@@ -315,21 +318,19 @@ module _ (cfg : Description) (valid : IsValid cfg) (key : Key) (chain : List Act
 
   pub test_agrees : (w : Width) (dest : Place) (src : Source) (b : KnownBits) (f : ℕ) → IsOperand (source_of dest)
       → IsOperand src
-      → Agree cfg key base ((read_of m w (source_of dest) ++ read_of m w src) ++ write_of (operated m w dest b None).store)
-      (data_accesses (machine.operated c w dest
-      (machine_operand.reads_of c w (source_of dest) ++ machine_operand.reads_of c w src) f None))
+      → Agree cfg key base (abs_pair w dest src ++ write_of (operated m w dest b None).store)
+      (data_accesses (machine.operated c w dest (pair w dest src) f None))
   test_agrees w dest src b f into from =
-      operated_agrees w dest b None (read_of m w (source_of dest) ++ read_of m w src)
-      (machine_operand.reads_of c w (source_of dest) ++ machine_operand.reads_of c w src) f None into
+      operated_agrees w dest b None (abs_pair w dest src) (pair w dest src) f None into
       (pair_agrees w dest src into from) tt
 
   pub bit_agrees : (op : BitOp) (w : Width) (dest : Place) (b x : KnownBits) (i f j : ℕ) → IsOperand (source_of dest)
       → Agree cfg key base (read_of m w (source_of dest) ++ write_of (operated m w dest b (bit_result m op i x)).store)
-      (data_accesses (machine.operated c w dest (machine_operand.reads_of c w (source_of dest)) f
+      (data_accesses (machine.operated c w dest (operands.reads_of c w (source_of dest)) f
       (effect.bit_result op i j)))
   bit_agrees op w dest b x i f j into =
       operated_agrees w dest b (bit_result m op i x) (read_of m w (source_of dest))
-      (machine_operand.reads_of c w (source_of dest)) f (effect.bit_result op i j) into
+      (operands.reads_of c w (source_of dest)) f (effect.bit_result op i j) into
       (read_agrees w (source_of dest) into) (bit_both op i x j)
 
   -- a write to a model-specific register touches no memory
@@ -375,9 +376,10 @@ module _ (cfg : Description) (valid : IsValid cfg) (key : Key) (chain : List Act
       }
 
   pop_agrees : (dest : Place) (v : AbsValue) (n : ℕ) → IsOperand (source_of dest)
-      → Agree cfg key at (stack_read here 0 ∷ write_of (store_of (record here { cpu = with_popped_rsp here }) Quad dest v))
+      → Agree cfg key at
+      (stack_read here 0 ∷ write_of (store_of (record here { cpu = with_popped_rsp here }) Quad dest v))
       (machine.stack_read there 0
-      ∷ write_access (machine_operand.write_of (record there { cpu = machine.with_popped_rsp there }) Quad dest n))
+      ∷ write_access (operands.write_of (record there { cpu = machine.with_popped_rsp there }) Quad dest n))
   pop_agrees dest v n is = (
     stack_agrees cfg valid key chain F typed state slots cpu latch mem next S 0 (omega arith),
     write_agrees cfg valid key chain F typed (with_popped_rsp here) slots (machine.with_popped_rsp there) latch mem next
@@ -397,14 +399,14 @@ module _ (cfg : Description) (valid : IsValid cfg) (key : Key) (chain : List Act
   accesses_agree Ud2 is other = tt
   accesses_agree (Mov w dest src) is other =
       move_agrees cfg valid key chain F typed state slots cpu latch mem next S w dest src (operand here w src)
-      (machine_operand.operand there w src) is.0 is.1
+      (operands.operand there w src) is.0 is.1
   accesses_agree (Lea w dest src) is other = tt
   accesses_agree (Xchg w dest src) is other =
       move_agrees cfg valid key chain F typed state slots cpu latch mem next S w dest (source_of dest)
-      (operand here w (source.Reg src)) (machine_operand.operand there w (source.Reg src)) is is
+      (operand here w (source.Reg src)) (operands.operand there w (source.Reg src)) is is
   accesses_agree (Push src) is other =
       push_all cfg valid key chain F typed state slots cpu latch mem next S src (operand here Quad src)
-      (machine_operand.operand there Quad src) is
+      (operands.operand there Quad src) is
   accesses_agree (Pop dest) is other = pop_agrees dest (stack_word here) (machine.stack_word there 0) is
   accesses_agree Pushfq is other =
       push_agrees cfg valid key chain F typed state slots cpu latch mem next S state.flags cpu.flags
@@ -412,20 +414,20 @@ module _ (cfg : Description) (valid : IsValid cfg) (key : Key) (chain : List Act
       (stack_agrees cfg valid key chain F typed state slots cpu latch mem next S 0 (omega arith), tt)
   accesses_agree (Alu op w dest src) is other =
       alu_agrees cfg valid key chain F typed state slots cpu latch mem next S op w dest src
-      (effect.alu_flags op w (machine_operand.destination there w dest) (machine_operand.operand there w src) cpu.flags)
-      (machine_operand.destination there w dest) (machine_operand.operand there w src) is.0 is.1
+      (effect.alu_flags op w (operands.destination there w dest) (operands.operand there w src) cpu.flags)
+      (operands.destination there w dest) (operands.operand there w src) is.0 is.1
   accesses_agree (Test w dest src) is other =
       test_agrees cfg valid key chain F typed state slots cpu latch mem next S w dest src
       (alu_flags alu.And (bits_of w) (bits_cut (bits_of w) (destination here w dest).bits)
       (bits_cut (bits_of w) (operand here w src).bits) state.flags.bits)
-      (effect.logic_flags_after w (bit_and (machine_operand.destination there w dest) (machine_operand.operand there w src))
+      (effect.logic_flags_after w (bit_and (operands.destination there w dest) (operands.operand there w src))
       cpu.flags) is.0 is.1
   accesses_agree (Bit op w dest number) is other =
       bit_agrees cfg valid key chain F typed state slots cpu latch mem next S op w dest
       (bit_flags (number % bits_of w) (bits_cut (bits_of w) (destination here w dest).bits) state.flags.bits)
       (bits_cut (bits_of w) (destination here w dest).bits) (number % bits_of w)
-      (effect.bit_flags (number % bits_of w) (machine_operand.destination there w dest) cpu.flags)
-      (machine_operand.destination there w dest) is
+      (effect.bit_flags (number % bits_of w) (operands.destination there w dest) cpu.flags)
+      (operands.destination there w dest) is
   accesses_agree (Jcc code target) is other = tt
   accesses_agree (Jmp target) is other = tt
   accesses_agree (Call target) is other =

@@ -1,6 +1,6 @@
 -- What of a description stays when an instruction changes the processor, the latches and memory: the chain, its floors
--- and what is bound to them. And a greater state describes too, part by part: at an inside site where the changes of the
--- call leave it as it is.
+-- and what is bound to them. And a greater state describes too, part by part: at an inside site where the changes of
+-- the call leave it as it is.
 use Rattle.std.proofs.Common.{◌≡◌, ℕ, zero, suc, ◌^◌, ◌<◌, ◌&&◌, Bool, true, false, List, [], ◌∷◌, length, get_or, Option, Some, None, IsSomeAnd, slice_get, refl, sym, ap, ◌∙◌, subst, arith}
 use Rattle.std.proofs.lemmas.Bool.{and_parts}
 use Rattle.std.proofs.lemmas.List.Elements.{All-get_or}
@@ -203,7 +203,8 @@ module _ (cfg : Description) (valid : IsValid cfg) (key : Key) (s t : AbsState) 
       floor_grows (get_or s.floors.at n floor_top) (get_or t.floors.at n floor_top) base (Some x)
       (All-get_or IsFloor s.floors.at n floor_top (omega (arith, few, is.floors.count)) is.floors.each)
       (All-get_or IsFloor t.floors.at n floor_top (omega (arith, few, also.floors.count)) also.floors.each)
-      (rows_at floor_below s.floors.at t.floors.at n floor_top below.floors (omega (arith, few, is.floors.count))) stands
+      (rows_at floor_below s.floors.at t.floors.at n floor_top below.floors (omega (arith, few, is.floors.count)))
+      stands
 
   top_stays : (i : ℕ) → i < 296 → value_at s.slots i ≡ value_top → value_at t.slots i ≡ value_top
   top_stays i inside top =
@@ -214,7 +215,8 @@ module _ (cfg : Description) (valid : IsValid cfg) (key : Key) (s t : AbsState) 
 
   running_still : (found : Option (Insn × ℕ)) (at : ℕ) (chain : List Activation) (cpu : Cpu) (call : Call)
       (o : Option Handler) → slice_get cfg.handlers call.handler ≡ o → IsCallAt cfg at found call → IsStill found
-      → IsSomeAnd o (IsHandlerRunning cfg key s chain cpu call) → IsSomeAnd o (IsHandlerRunning cfg key t chain cpu call)
+      → IsSomeAnd o (IsHandlerRunning cfg key s chain cpu call)
+      → IsSomeAnd o (IsHandlerRunning cfg key t chain cpu call)
   running_still found at chain cpu call None e by still h = absurd h
   running_still found at chain cpu call (Some handler) e by still h =
       let c = call_of cfg at found call by in

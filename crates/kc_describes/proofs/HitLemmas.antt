@@ -1,6 +1,6 @@
 -- Which slots an access may change: where a byte of it is a byte of a slot's word, the slot counts as hit. Words at
 -- numbers meet bytes at numbers by their addresses, and words at offsets meet bytes at offsets by their distances. A
--- number and an offset meet where zones say: bytes in the zone of the stack of a key without a base, and the words below
+-- number and an offset meet where zones say: bytes in the zone of the stack of a key without a base, and words below
 -- the base or below the top of that stack.
 use Rattle.std.proofs.Common.{◌≡◌, ◌≢◌, ℕ, ◌+◌, ◌-◌, ◌*◌, ◌/◌, ◌%◌, ◌^◌, ◌<◌, ◌≤◌, ◌&&◌, ◌||◌, ◌==◌, nat_le, nat_lt, not, inl, inr, Bool, true, false, Option, Some, None, ℤ, pos, neg_ℤ, refl, sym, ap, ◌∙◌, subst, arith}
 use Rattle.std.specs.Prelude.{FitsSigned, slice_get}
@@ -97,7 +97,8 @@ minus_fits n low high = omega (arith, ints, low, high)
 
 offset_base : (base : Option ℕ) (syscall : Bool) (n : ℕ) (j : ℤ) → 1 ≤ n → n ≤ 64
     → base_word base syscall n ≡ Some (Relative j) → (base ≡ None) × (syscall ≡ false) × FitsSigned w64 j
-offset_base (Some b) syscall n j low high e = absurd (let same = some_is (Number (below_address b (8 * n))) (Relative j) e in cc)
+offset_base (Some b) syscall n j low high e =
+    absurd (let same = some_is (Number (below_address b (8 * n))) (Relative j) e in cc)
 offset_base None true n j low high e = absurd cc
 offset_base None false n j low high e =
     let same : neg_ℤ (pos (8 * n)) ≡ j =

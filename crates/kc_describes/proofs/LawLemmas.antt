@@ -41,13 +41,14 @@ may_is_permitted cfg key chain v l n map cr3 size x touch P fetches stands known
 pub clear_is_not_live : ClearIsNotLive
 clear_is_not_live cfg key chain v l n floors map size x P stand may clear low inside =
     let at = at_of cfg key chain v l n P in
-    clear_not_live cfg P.context.valid key floors (newest_of chain).base chain P.context.fits.fits.base stand map l size x
-    at.0 low may clear (subst (λ z. InBytes x z size) (sym at.1) inside)
+    clear_not_live cfg P.context.valid key floors (newest_of chain).base chain P.context.fits.fits.base stand map l size
+    x at.0 low may clear (subst (λ z. InBytes x z size) (sym at.1) inside)
 
 pub load_is_sound : LoadStands
 load_is_sound cfg key chain v l n w slots mem P are bytes stand =
     let at = at_of cfg key chain v l n P in
-    subst (λ z. Represents (loaded cfg key l (bits_of w / 8) slots) (env_of cfg chain) (read mem z (bits_of w / 8))) at.1
+    let value = loaded cfg key l (bits_of w / 8) slots in
+    subst (λ z. Represents value (env_of cfg chain) (read mem z (bits_of w / 8))) at.1
     (load_stands cfg P.context.valid key chain P.context.fits P.context.typed mem bytes l
     (placed_fits cfg key (newest_of chain).base l at.0) w slots are.1 are.0 stand)
 

@@ -17,3 +17,4 @@ pub mod AccessLemmas
 pub mod QuietLemmas
 pub mod FrameLemmas
 pub mod LawLemmas
+pub mod InsnLemmas

@@ -1,6 +1,6 @@
--- What `clear` says of live bytes. A live byte lies in a stack, whose floor isn't above it. At a number each byte of the
--- access ends at or below that floor; at an offset the byte lies in the zone of the key's stack below the base, which is
--- the floor unless the stack has no live byte.
+-- What `clear` says of live bytes. A live byte lies in a stack, whose floor isn't above it. At a number each byte of
+-- the access ends at or below that floor; at an offset the byte lies in the zone of the key's stack below the base,
+-- which is the floor unless the stack has no live byte.
 use Rattle.std.proofs.Common.{◌≡◌, ℕ, zero, suc, ◌+◌, ◌^◌, ◌<◌, ◌≤◌, max, inl, inr, Bool, true, List, Option, Some, None, get_or, ℤ, pos, neg_ℤ, ◌≤ℤ◌, int_le, ap, ◌∙◌, subst, arith}
 use Rattle.std.specs.Prelude.{FitsSigned}
 use Rattle.std.specs.Int.{w64, cast_unsigned}
@@ -95,7 +95,8 @@ module _ (cfg : Description) (valid : IsValid cfg) (key : Key) (floors : Floors)
       let same : max n 1 ≡ n = omega (arith, some) in
       let each : clear_bytes cfg key floors (a + n) a n ≡ true =
       subst (λ z. clear_bytes cfg key floors (a + n) a z ≡ true) same free in
-      let end = cleared (a + n) x x at.0 (clear_each cfg key floors (a + n) a n x fits low each inside) at.1 live at.1 in
+      let own = clear_each cfg key floors (a + n) a n x fits low each inside in
+      let end = cleared (a + n) x x at.0 own at.1 live at.1 in
       let whole = may_whole cfg map a n Write valid fits some h in
       let within = rising_byte x a n low fits (omega (arith, whole)) inside in
       omega (arith, end, within.1)

@@ -1,5 +1,5 @@
--- A location names the number for which its value stands: by cases on the value's symbol, and for the symbol of the base
--- on whether the key has one. Where the key has none, the base and the frame below it lie in the key's stack.
+-- A location names the number for which its value stands: by cases on the value's symbol, and for the symbol of the
+-- base on whether the key has one. Where the key has none, the base and the frame below it lie in the key's stack.
 use Rattle.std.proofs.Common.{◌≡◌, ℕ, ◌+◌, ◌-◌, ◌^◌, ◌<◌, ◌≤◌, ◌==◌, inl, inr, Bool, false, Option, Some, None, IfSome, option_map, ℤ, refl, sym, ap, ◌∙◌, subst, arith}
 use Rattle.std.specs.Prelude.{FitsSigned}
 use Rattle.std.specs.Int.{w64, cast_unsigned}

@@ -102,7 +102,8 @@ read-write m a (suc n) v fits few =
     (λ i. first i + 256 * rest i) ∙ cut_more v (256 ^ n) (bytes_pos n) ∙ ap (λ x. v % x) power
 
 -- a read of n + k bytes is one of n, and one of k above it
-pub read_parts : (m : Bytes) (a n k : ℕ) → a < 2 ^ 64 → read m a (n + k) ≡ read m a n + 256 ^ n * read m (word (a + n)) k
+pub read_parts : (m : Bytes) (a n k : ℕ) → a < 2 ^ 64
+    → read m a (n + k) ≡ read m a n + 256 ^ n * read m (word (a + n)) k
 unfolding read
 read_parts m a zero k fits =
     let same : a ≡ word (a + 0) = omega (arith, fits) in

@@ -1,5 +1,5 @@
--- Operands and their addresses, on both sides in the same order: the base, the index, the displacement, the GS base. The
--- address of an operand in memory is where its value points, and what is loaded there stands for the bytes.
+-- Operands and their addresses, on both sides in the same order: the base, the index, the displacement, the GS base.
+-- The address of an operand in memory is where its value points, and what is loaded there stands for the bytes.
 use Rattle.std.proofs.Common.{◌≡◌, ℕ, ◌+◌, ◌*◌, ◌/◌, ◌^◌, ◌<◌, ◌≤◌, inl, inr, Bool, true, false, cond, List, length, get_or, set, All, Option, Some, None, slice_index, get_or-set_same, get_or-set_other, refl, sym, ap, ◌∙◌, subst, arith}
 use Rattle.std.specs.Int.{w64, cast_unsigned}
 use Rattle.std.proofs.lemmas.Bool.{cases_lt, cases_eq}
@@ -234,8 +234,8 @@ module _ (cfg : Description) (valid : IsValid cfg) (key : Key) (chain : List Act
         let whole = sum_stands one (all_of d) (word (n + word (k * i.1))) d
         (add_valid (base_value m a.base).bits product) (all_valid d small) (omega arith) small first
         (all_stands d small) in
-        bits_are (bits_add one (all_of d)) (word (word (n + word (k * i.1)) + d)) (add_valid one (all_of d)) (omega arith)
-        whole
+        bits_are (bits_add one (all_of d)) (word (word (n + word (k * i.1)) + d)) (add_valid one (all_of d))
+        (omega arith) whole
 
     pub effective_is : (a : Mem) → IsAddress a → IsFor env (effective m a) (machine.effective c a)
     effective_is a is = by_index a a.index is.disp is.index

@@ -208,7 +208,8 @@ pub may_number : (cfg : Description) (map : MapState) (a n x : ℕ) (touch : Tou
 may_number cfg map a n x touch fits low h inside =
     (open_byte cfg map touch x (may_each cfg map touch a n x fits low h inside)).unguarded
 
-pub some_region : (cfg : Description) (x : ℕ) (r : Region) → region_of cfg.regions x ≡ Some r → IsSome (region_of cfg.regions x)
+pub some_region : (cfg : Description) (x : ℕ) (r : Region) → region_of cfg.regions x ≡ Some r
+    → IsSome (region_of cfg.regions x)
 some_region cfg x r e = subst (λ (o : Option Region). IsSome o) (sym e) refl
 
 -- bytes at a number that may be accessed don't wrap

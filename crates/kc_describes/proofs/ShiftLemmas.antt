@@ -95,7 +95,8 @@ none_based (Some b) h = absurd cc
 
 -- ---- moves
 
-module _ (cfg : Description) (valid : IsValid cfg) (key : Key) (chain : List Activation) (F : ChainFits cfg key chain) where
+module _ (cfg : Description) (valid : IsValid cfg) (key : Key) (chain : List Activation)
+    (F : ChainFits cfg key chain) where
   abbrev base : ℕ
   base = (newest_of chain).base
 
@@ -135,7 +136,8 @@ module _ (cfg : Description) (valid : IsValid cfg) (key : Key) (chain : List Act
       (sym here.numbered ∙ ap (stack_at cfg.regions) (sym same_stack) ∙ b.numbered) in
       let low : b.region.span.from ≤ n = subst (λ z. z.span.from ≤ n) one here.held.0 in
       let there = moved_up_stays b.region.span.from b.region.span.to base k c (omega (arith, b.is.begins)) b.held.0
-      b.held.1 (omega (arith, b.is.ends)) fits (move_bound c move) (subst (λ z. b.region.span.from ≤ z) is low) up stops in
+      b.held.1 (omega (arith, b.is.ends)) fits (move_bound c move) (subst (λ z. b.region.span.from ≤ z) is low) up
+      stops in
       let target = word (n + cast_unsigned w64 c) in
       let moved = moved_sum base n k c fits sum move is in
       let held : Holds b.region.span target =
@@ -199,7 +201,8 @@ module _ (cfg : Description) (valid : IsValid cfg) (key : Key) (chain : List Act
 
   -- RSP after a push: where it is an offset, it lies in the stack of the key
   abbrev pub pushed_value : AbsValue → AbsValue
-  pushed_value v = on_stack key (shifted cfg key v (neg_ℤ (pos 8))) (location_of key (shifted cfg key v (neg_ℤ (pos 8))))
+  pushed_value v =
+      on_stack key (shifted cfg key v (neg_ℤ (pos 8))) (location_of key (shifted cfg key v (neg_ℤ (pos 8))))
 
   pushed_at : (u : AbsValue) (n : ℕ) (map : MapState) (o : Option Location) → location_of key u ≡ o → IsValidValue u
       → n < 2 ^ 64 → Represents u env n

@@ -1,6 +1,7 @@
 -- The words of slots: where they lie, by the four ranges of slots. Those of the TSS and of the configuration lie in
--- areas. Those below the base lie in the zone of the stack that holds the frame: the base is aligned as the stack's ends
--- are, and 64 words are fewer than the 4,096 bytes of the guard. Those below the top of a marked stack lie in its zone.
+-- areas. Those below the base lie in the zone of the stack that holds the frame: the base is aligned as the stack's
+-- ends are, and 64 words are fewer than the 4,096 bytes of the guard. Those below the top of a marked stack lie in its
+-- zone.
 use Rattle.std.proofs.Common.{◌≡◌, ℕ, zero, suc, ◌+◌, ◌-◌, ◌*◌, ◌/◌, ◌%◌, ◌^◌, ◌<◌, ◌≤◌, inl, inr, Bool, true, false, cond, nat_lt, List, [], ◌∷◌, length, get_or, filter, find, All, Contains, Option, Some, None, option_map, pos, neg_ℤ, refl, sym, ap, ◌∙◌, subst, arith}
 use Rattle.std.specs.Prelude.{slice_get}
 use Rattle.std.specs.Int.{w64, cast_unsigned}
@@ -96,8 +97,8 @@ tss_offset tss (suc n) below = (36 + 8 * n, omega arith, omega (arith, below))
 near_word : (cfg : Description) (key : Key) (i : ℕ) → i < 40
     → word_of cfg key i ≡ cond (nat_lt i 8) (Some (Number (word (tss_word cfg.cpu.tss i)))) (tracked_word cfg (i - 8))
 near_word cfg key i h =
-    ap (λ (t : Bool). cond (nat_lt i 8) (Some (Number (word (tss_word cfg.cpu.tss i)))) (cond t (tracked_word cfg (i - 8))
-    (cond (nat_lt i 104) (base_word key.base key.syscall (i - 39))
+    ap (λ (t : Bool). cond (nat_lt i 8) (Some (Number (word (tss_word cfg.cpu.tss i))))
+    (cond t (tracked_word cfg (i - 8)) (cond (nat_lt i 104) (base_word key.base key.syscall (i - 39))
     (marked_word cfg ((i - 104) / 64) ((i - 104) % 64 + 1))))) (lt-ltb i 40 h)
 
 area_from : (cfg : Description) (valid : IsValid cfg) (at : ℕ) (l : Location) → l ≡ Number at

@@ -180,7 +180,8 @@ module _ (cfg : Description) (valid : IsValid cfg) (key : Key) (chain : List Act
     -- after a store of n bytes, which may be written, each slot stands for its word
     pub store_stands : (slots : List AbsValue) → length slots ≡ slot_count → SlotsStand cfg key env slots mem
         → SlotsStand cfg key env (redone (stored cfg key l n new) 0 slots) after
-    store_stands slots count stand = redone_stand cfg key env slots mem after (stored cfg key l n new) count stand at_slot
+    store_stands slots count stand =
+        redone_stand cfg key env slots mem after (stored cfg key l n new) count stand at_slot
 
   -- ---- a syscall's slots
 

@@ -140,7 +140,9 @@ module _ (cfg : Description) (valid : IsValid cfg) where
     bits_stand b n ok fits known = derived_stands (stack_of cfg.regions) b env n ok fits known (place_in n)
 
     pub anywhere : (n : ℕ) → LiesIn all_places env.stacks n
-    anywhere n = (stack_of cfg.regions n, place_in n, bit_at_ones 17 (place_bit (stack_of cfg.regions n)) (place_bound (stack_of cfg.regions n) (is_place cfg n valid)))
+    anywhere n =
+        let place = stack_of cfg.regions n in
+        (place, place_in n, bit_at_ones 17 (place_bit place) (place_bound place (is_place cfg n valid)))
 
     pub top_stands : (n : ℕ) → Represents value_top env n
     top_stands n = record { symbol = tt; bits = nothing_stands n; place = anywhere n }

@@ -44,8 +44,8 @@ IsAtPoint cfg key at true found s chain cpu = IsInsideAt cfg key at found s chai
 abbrev pub AtSite : Description → Key → Site → Option (Insn × ℕ) → AbsState → List Activation → Cpu → Type 0
 AtSite cfg key site found s chain cpu = IsAtPoint cfg key site.at site.inside found s chain cpu
 
-pub record Describes (cfg : Description) (key : Key) (site : Site) (found : Option (Insn × ℕ)) (s : AbsState) (S : State)
-    : Type 0
+pub record Describes (cfg : Description) (key : Key) (site : Site) (found : Option (Insn × ℕ)) (s : AbsState)
+    (S : State) : Type 0
   where
     pub typed : IsMachine S
     pub running : S.stopped ≡ false

@@ -26,7 +26,8 @@ IsCallAt cfg at found call = ⊥
 
 -- The handler's stack holds the return address, no live byte of it lies below, and the handler has its depth there, of
 -- which the guard may hold the last 4,096 bytes. RSP lies in the stack, in the part that is the handler's.
-pub record HasHandlerStack (cfg : Description) (chain : List Activation) (cpu : Cpu) (call : Call) (h : Handler) : Type 0
+pub record HasHandlerStack (cfg : Description) (chain : List Activation) (cpu : Cpu) (call : Call) (h : Handler)
+    : Type 0
   where
     pub stack : ℕ
     pub region : Region

@@ -1,5 +1,5 @@
--- What the definitions of the analysis mean on the machine, each a law: where a value points, what may be accessed, what
--- isn't live, loads, stores, the changes of a handler's call, and moves. This project's own.
+-- What the definitions of the analysis mean on the machine, each a law: where a value points, what may be accessed,
+-- what isn't live, loads, stores, the changes of a handler's call, and moves. This project's own.
 use Rattle.std.specs.Prelude.{◌≡◌, ◌≢◌, ℕ, ◌+◌, ◌/◌, ◌^◌, ◌<◌, true, ◌⊎◌, List, All, Option, Some, ℤ, pos, FitsSigned}
 use Rattle.std.specs.Int.{w64, cast_unsigned}
 use Rattle.kc_words.specs.Flags.{bits_of}
@@ -53,7 +53,8 @@ pub record IsWordOf (cfg : Description) (chain : List Activation) (v : AbsValue)
   pub stands : Represents v (env_of cfg chain) n
 
 -- the value stands for the address n, and points there
-pub record Points (cfg : Description) (key : Key) (chain : List Activation) (v : AbsValue) (l : Location) (n : ℕ) : Type 0
+pub record Points (cfg : Description) (key : Key) (chain : List Activation) (v : AbsValue) (l : Location) (n : ℕ)
+    : Type 0
   where
     pub context : IsContext cfg key chain
     pub is : IsWordOf cfg chain v n
@@ -101,8 +102,8 @@ StoreStands = (cfg : Description) (key : Key) (chain : List Activation) (v : Abs
 
 -- the slots that the handler's stack may change become the top, and the others stay
 abbrev pub UsedStands : Type 0
-UsedStands = (cfg : Description) (key : Key) (chain : List Activation) (l : Location) (depth : ℕ) (slots : List AbsValue)
-    (mem : Bytes) → IsContext cfg key chain → AreSlots IsValidValue slots
+UsedStands = (cfg : Description) (key : Key) (chain : List Activation) (l : Location) (depth : ℕ)
+    (slots : List AbsValue) (mem : Bytes) → IsContext cfg key chain → AreSlots IsValidValue slots
     → SlotsStand cfg key (env_of cfg chain) slots mem
     → SlotsStand cfg key (env_of cfg chain) (redone (used cfg key l depth) 0 slots) mem
 
@@ -118,8 +119,8 @@ ShiftStands = (cfg : Description) (key : Key) (chain : List Activation) (v : Abs
 
 -- A greater state describes too; at an inside site where the changes of the call leave it as it is.
 abbrev pub GreaterDescribes : Type 0
-GreaterDescribes = (cfg : Description) (key : Key) (site : Site) (found : Option (Insn × ℕ)) (s t : AbsState) (S : State)
-    → IsValid cfg → IsState s → IsState t → state_below s t ≡ true
+GreaterDescribes = (cfg : Description) (key : Key) (site : Site) (found : Option (Insn × ℕ)) (s t : AbsState)
+    (S : State) → IsValid cfg → IsState s → IsState t → state_below s t ≡ true
     → (site.inside ≡ true → (insn : Insn) (len : ℕ) (h : Handler) → found ≡ Some (insn, len)
     → handler_called_by cfg insn ≡ Some h → called cfg key h t ≡ t)
     → Describes cfg key site found s S → Describes cfg key site found t S
