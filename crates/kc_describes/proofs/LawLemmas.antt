@@ -13,15 +13,16 @@ use Rattle.kc_state.specs.Memory.{loaded, stored}
 use Rattle.kc_state.specs.declared.key.Key.{Key}
 use Rattle.kc_state.specs.declared.location.Location.{Location}
 use Rattle.kc_describes.specs.Chain.{newest_of, env_of, user_gs_of}
-use Rattle.kc_describes.specs.Laws.{Points, LocationIsAddress, MayIsPermitted, ClearIsNotLive, LoadStands, StoreStands, UsedStands, ShiftStands, GreaterDescribes}
+use Rattle.kc_describes.specs.Laws.{Points, LocationIsAddress, MayIsPermitted, ClearIsNotLive, LoadStands, StoreStands, CalledStands, ShiftStands, GreaterDescribes}
 use Rattle.kc_describes.specs.Places.{SlotsStand}
+use Rattle.kc_describes.proofs.CallLemmas.{called_keeps}
 use Rattle.kc_describes.proofs.FrameLemmas.{state_facts, described_above}
 use Rattle.kc_describes.proofs.LiveLemmas.{clear_not_live}
 use Rattle.kc_describes.proofs.LoadLemmas.{load_stands}
 use Rattle.kc_describes.proofs.LocationLemmas.{IsAt, located}
 use Rattle.kc_describes.proofs.PermissionLemmas.{may_permits}
 use Rattle.kc_describes.proofs.ShiftLemmas.{shift_stands}
-use Rattle.kc_describes.proofs.StoreLemmas.{placed_fits, store_stands, used_stands}
+use Rattle.kc_describes.proofs.StoreLemmas.{placed_fits, store_stands}
 
 at_of : (cfg : Description) (key : Key) (chain : List Activation) (v : AbsValue) (l : Location) (n : ℕ)
     → Points cfg key chain v l n → IsAt cfg key (newest_of chain).base n l
@@ -60,9 +61,9 @@ store_is_sound cfg key chain v l n map size w new slots mem P few may fits whole
     (store_stands cfg P.context.valid key chain P.context.fits P.context.typed map l size new w mem at.0 few may fits
     whole slots are.1 stand)
 
-pub used_is_sound : UsedStands
-used_is_sound cfg key chain l depth slots mem c are stand =
-    used_stands cfg c.valid key chain c.fits c.typed l depth slots mem are.1 stand
+pub called_is_sound : CalledStands
+called_is_sound cfg key chain h s mem c is stand =
+    (called_keeps cfg c.valid key chain c.fits c.typed h s mem is.slots.1).slots stand
 
 pub shift_is_sound : ShiftStands
 shift_is_sound cfg key chain v n c context r move =

@@ -18,3 +18,5 @@ pub mod QuietLemmas
 pub mod FrameLemmas
 pub mod LawLemmas
 pub mod InsnLemmas
+pub mod CallLemmas
+pub mod TwiceLemmas

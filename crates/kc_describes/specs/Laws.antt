@@ -24,7 +24,7 @@ use Rattle.kc_value.specs.AbsValue.{AbsValue}
 use Rattle.kc_value.specs.Value.{IsValidValue, Represents}
 use Rattle.kc_state.specs.AbsEvents.{handler_called_by}
 use Rattle.kc_state.specs.Access.{may, clear}
-use Rattle.kc_state.specs.Calls.{called, used}
+use Rattle.kc_state.specs.Calls.{called}
 use Rattle.kc_state.specs.Location.{location_of}
 use Rattle.kc_state.specs.Memory.{loaded, stored}
 use Rattle.kc_state.specs.Shift.{shifted}
@@ -100,12 +100,11 @@ StoreStands = (cfg : Description) (key : Key) (chain : List Activation) (v : Abs
     → SlotsStand cfg key (env_of cfg chain) slots mem
     → SlotsStand cfg key (env_of cfg chain) (redone (stored cfg key l size new) 0 slots) (write mem n size w)
 
--- the slots that the handler's stack may change become the top, and the others stay
-abbrev pub UsedStands : Type 0
-UsedStands = (cfg : Description) (key : Key) (chain : List Activation) (l : Location) (depth : ℕ)
-    (slots : List AbsValue) (mem : Bytes) → IsContext cfg key chain → AreSlots IsValidValue slots
-    → SlotsStand cfg key (env_of cfg chain) slots mem
-    → SlotsStand cfg key (env_of cfg chain) (redone (used cfg key l depth) 0 slots) mem
+-- the changes of a handler's call keep each slot standing for its word
+abbrev pub CalledStands : Type 0
+CalledStands = (cfg : Description) (key : Key) (chain : List Activation) (h : Handler) (s : AbsState) (mem : Bytes)
+    → IsContext cfg key chain → IsState s → SlotsStand cfg key (env_of cfg chain) s.slots mem
+    → SlotsStand cfg key (env_of cfg chain) (called cfg key h s).slots mem
 
 -- ---- moves
 

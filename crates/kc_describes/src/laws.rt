@@ -1,6 +1,6 @@
 //! What the definitions of the analysis mean on the machine.
 
-ghost use Rattle.kc_describes.specs.Laws.{LocationIsAddress, MayIsPermitted, ClearIsNotLive, LoadStands, StoreStands, UsedStands, ShiftStands, GreaterDescribes};
+ghost use Rattle.kc_describes.specs.Laws.{LocationIsAddress, MayIsPermitted, ClearIsNotLive, LoadStands, StoreStands, CalledStands, ShiftStands, GreaterDescribes};
 
 /// Laws on definitions, with nothing to run: where a value points, what may be accessed there, and
 /// which bytes aren't live.
@@ -10,11 +10,11 @@ pub fn places()
     ensures not_live { ClearIsNotLive }
 {}
 
-/// The same of the tracked words: loads, stores, and the stack of a handler that is called.
+/// The same of the tracked words: loads, stores, and the changes of a handler's call.
 pub fn slots()
     ensures load { LoadStands }
     ensures store { StoreStands }
-    ensures call { UsedStands }
+    ensures call { CalledStands }
 {}
 
 /// The same of values that are moved by a number.
