@@ -20,3 +20,4 @@ pub mod LawLemmas
 pub mod InsnLemmas
 pub mod CallLemmas
 pub mod TwiceLemmas
+pub mod AboveLemmas

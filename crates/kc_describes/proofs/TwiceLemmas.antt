@@ -28,21 +28,21 @@ use Rattle.kc_describes.specs.Row.{value_at}
 -- ---- values
 
 -- an edit is a valid value
-rip_valid : IsValidValue edited_rip
+pub rip_valid : IsValidValue edited_rip
 rip_valid = record {
   sym_fits = lit< tt;
   bits_fit = record { zeros_fit = lit< tt; ones_fit = lit< tt; apart = refl };
   stacks_fit = lit< tt;
 }
 
-flags_valid : IsValidValue edited_flags
+pub flags_valid : IsValidValue edited_flags
 flags_valid = record {
   sym_fits = lit< tt;
   bits_fit = record { zeros_fit = lit< tt; ones_fit = lit< tt; apart = refl };
   stacks_fit = lit< tt;
 }
 
-rsp_valid : IsValidValue edited_rsp
+pub rsp_valid : IsValidValue edited_rsp
 rsp_valid = record {
   sym_fits = lit< tt;
   bits_fit = record { zeros_fit = lit< tt; ones_fit = lit< tt; apart = refl };
@@ -71,7 +71,7 @@ tame_again v = elim (cases_Bool (is_edited_sym v.sym)) [
 -- ---- slots
 
 -- what an edit does, by which of its words the slot is
-abbrev pick : Bool → Bool → Bool → Bool → AbsValue → AbsValue
+abbrev pub pick : Bool → Bool → Bool → Bool → AbsValue → AbsValue
 pick a b c d v =
     if a then value_joined v edited_rip else
     if b then value_joined v edited_flags else
@@ -91,7 +91,7 @@ edits_again w l v ok =
     pick_again (is_just l 8 w) (is_just (moved_up l 16) 8 w) (is_just (moved_up l 24) 8 w)
     (meets_word l 8 w || (meets_word (moved_up l 16) 8 w || meets_word (moved_up l 24) 8 w)) v ok
 
-redone_both : {V : Type 0} (f g : ℕ → V → V) (i : ℕ) (vs : List V)
+pub redone_both : {V : Type 0} (f g : ℕ → V → V) (i : ℕ) (vs : List V)
     → redone f i (redone g i vs) ≡ redone (λ j v. f j (g j v)) i vs
 redone_both f g i [] = refl
 redone_both f g i (v ∷ vs) = ap (λ us. f i (g i v) ∷ us) (redone_both f g (suc i) vs)
