@@ -154,19 +154,11 @@ latches_grow p q latch h stands =
       mcip = tri_grows p.mcip q.mcip latch.mcip b.1 stands.mcip;
     }
 
--- the handler that the instruction found calls
-pub call_of : (cfg : Description) (at : ℕ) (found : Option (Insn × ℕ)) (call : Call) → IsCallAt cfg at found call
-    → (target : ℕ) × (len : ℕ) × (found ≡ Some (CallInsn target, len))
-    × (handler_of cfg.handlers target ≡ Some call.handler)
-call_of cfg at (Some (CallInsn target, len)) call h = (target, len, refl, h.0)
-call_of cfg at found call h = absurd h
-
 module _ (cfg : Description) (valid : IsValid cfg) (key : Key) (s t : AbsState) (is : IsState s) (also : IsState t)
     (below : IsStateBelow s t) where
-  -- the handler's changes leave the greater state as it is
-  abbrev pub IsStill : Option (Insn × ℕ) → Type 0
-  IsStill found = (insn : Insn) (len : ℕ) (h : Handler) → found ≡ Some (insn, len) → handler_called_by cfg insn ≡ Some h
-      → called cfg key h t ≡ t
+  -- the changes of a handler's call leave the greater state as it is, where they leave the lesser one
+  abbrev pub IsStill : Type 0
+  IsStill = (h : Handler) → called cfg key h s ≡ s → called cfg key h t ≡ t
 
   reg_grows : (env : ValueEnv) (i n : ℕ) → i < 16 → Represents (value_at s.regs i) env n
       → Represents (value_at t.regs i) env n
@@ -213,35 +205,32 @@ module _ (cfg : Description) (valid : IsValid cfg) (key : Key) (s t : AbsState) 
       let up = subst (λ z. value_below z v ≡ true) top (slot_below i inside) in
       value_laws.below_antisym v value_top ok top_valid (value_laws.top_above v v ok ok tt) up
 
-  running_still : (found : Option (Insn × ℕ)) (at : ℕ) (chain : List Activation) (cpu : Cpu) (call : Call)
-      (o : Option Handler) → slice_get cfg.handlers call.handler ≡ o → IsCallAt cfg at found call → IsStill found
+  running_still : (chain : List Activation) (cpu : Cpu) (call : Call) (o : Option Handler) → IsStill
       → IsSomeAnd o (IsHandlerRunning cfg key s chain cpu call)
       → IsSomeAnd o (IsHandlerRunning cfg key t chain cpu call)
-  running_still found at chain cpu call None e by still h = absurd h
-  running_still found at chain cpu call (Some handler) e by still h =
-      let c = call_of cfg at found call by in
-      record {
-        interrupts = h.interrupts;
-        stack = h.stack;
-        cr3 = h.cr3;
-        changed = still (CallInsn c.0) c.1 handler c.2 (ap (called_handler cfg) c.3 ∙ e);
-      }
+  running_still chain cpu call None still h = absurd h
+  running_still chain cpu call (Some handler) still h = record {
+    interrupts = h.interrupts;
+    stack = h.stack;
+    cr3 = h.cr3;
+    changed = still handler h.changed;
+  }
 
-  inside_grows : (found : Option (Insn × ℕ)) (at : ℕ) (chain : List Activation) (cpu : Cpu) (mode : Mode)
-      → IsStill found → IsInsideAt cfg key at found s chain cpu mode → IsInsideAt cfg key at found t chain cpu mode
+  inside_grows : (found : Option (Insn × ℕ)) (at : ℕ) (chain : List Activation) (cpu : Cpu) (mode : Mode) → IsStill
+      → IsInsideAt cfg key at found s chain cpu mode → IsInsideAt cfg key at found t chain cpu mode
   inside_grows found at chain cpu User still h = absurd h
   inside_grows found at chain cpu Code still h = absurd h
   inside_grows found at chain cpu (Inside call) still h =
-      (h.0, running_still found at chain cpu call (slice_get cfg.handlers call.handler) refl h.0 still h.1)
+      (h.0, running_still chain cpu call (slice_get cfg.handlers call.handler) still h.1)
 
   point_grows : (found : Option (Insn × ℕ)) (at : ℕ) (inside : Bool) (chain : List Activation) (cpu : Cpu)
-      → (inside ≡ true → IsStill found) → IsAtPoint cfg key at inside found s chain cpu
+      → (inside ≡ true → IsStill) → IsAtPoint cfg key at inside found s chain cpu
       → IsAtPoint cfg key at inside found t chain cpu
   point_grows found at false chain cpu still h = h
   point_grows found at true chain cpu still h = inside_grows found at chain cpu cpu.mode (still refl) h
 
   -- a greater state describes too
-  pub described_above : (site : Site) (found : Option (Insn × ℕ)) (S : State) → (site.inside ≡ true → IsStill found)
+  pub described_above : (site : Site) (found : Option (Insn × ℕ)) (S : State) → (site.inside ≡ true → IsStill)
       → Describes cfg key site found s S → Describes cfg key site found t S
   described_above site found S still D = record {
     typed = D.typed;

@@ -15,6 +15,7 @@ use Rattle.kc_state.specs.declared.location.Location.{Location}
 use Rattle.kc_describes.specs.Chain.{newest_of, env_of, user_gs_of}
 use Rattle.kc_describes.specs.Laws.{Points, LocationIsAddress, MayIsPermitted, ClearIsNotLive, LoadStands, StoreStands, CalledStands, ShiftStands, GreaterDescribes}
 use Rattle.kc_describes.specs.Places.{SlotsStand}
+use Rattle.kc_describes.proofs.AboveLemmas.{called_above}
 use Rattle.kc_describes.proofs.CallLemmas.{called_keeps}
 use Rattle.kc_describes.proofs.FrameLemmas.{state_facts, described_above}
 use Rattle.kc_describes.proofs.LiveLemmas.{clear_not_live}
@@ -70,5 +71,7 @@ shift_is_sound cfg key chain v n c context r move =
     shift_stands cfg context.valid key chain context.fits v n c r.valid r.fits r.stands move
 
 pub greater_describes : GreaterDescribes
-greater_describes cfg key site found s t S valid is also below still D =
-    described_above cfg valid key s t is also (state_facts s t below) site found S still D
+greater_describes cfg key site found s t S valid is also below same D =
+    let facts = state_facts s t below in
+    described_above cfg valid key s t is also facts site found S
+    (λ inside h still. called_above cfg key h s t is also facts (same inside) still) D

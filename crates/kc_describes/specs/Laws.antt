@@ -1,6 +1,6 @@
 -- What the definitions of the analysis mean on the machine, each a law: where a value points, what may be accessed,
 -- what isn't live, loads, stores, the changes of a handler's call, and moves. This project's own.
-use Rattle.std.specs.Prelude.{◌≡◌, ◌≢◌, ℕ, ◌+◌, ◌/◌, ◌^◌, ◌<◌, true, ◌⊎◌, List, All, Option, Some, ℤ, pos, FitsSigned}
+use Rattle.std.specs.Prelude.{◌≡◌, ◌≢◌, ℕ, ◌+◌, ◌/◌, ◌^◌, ◌<◌, true, ◌⊎◌, List, All, Option, Some, None, ℤ, pos, FitsSigned}
 use Rattle.std.specs.Int.{w64, cast_unsigned}
 use Rattle.kc_words.specs.Flags.{bits_of}
 use Rattle.kc_words.specs.declared.width.Width.{Width}
@@ -22,7 +22,6 @@ use Rattle.kc_exec.specs.declared.state.Activation.{Activation}
 use Rattle.kc_exec.specs.declared.state.State.{State}
 use Rattle.kc_value.specs.AbsValue.{AbsValue}
 use Rattle.kc_value.specs.Value.{IsValidValue, Represents}
-use Rattle.kc_state.specs.AbsEvents.{handler_called_by}
 use Rattle.kc_state.specs.Access.{may, clear}
 use Rattle.kc_state.specs.Calls.{called}
 use Rattle.kc_state.specs.Location.{location_of}
@@ -37,6 +36,7 @@ use Rattle.kc_describes.specs.Chain.{newest_of, env_of}
 use Rattle.kc_describes.specs.Describes.{Describes}
 use Rattle.kc_describes.specs.Fits.{ChainFits}
 use Rattle.kc_describes.specs.Places.{address_of, SlotsStand, FloorsStand}
+use Rattle.kc_describes.specs.Row.{value_at}
 use Rattle.kc_describes.specs.Spaces.{IsCr3Of}
 use Rattle.kc_describes.specs.Widths.{IsActivation}
 
@@ -116,10 +116,14 @@ ShiftStands = (cfg : Description) (key : Key) (chain : List Activation) (v : Abs
 
 -- ---- greater states
 
--- A greater state describes too; at an inside site where the changes of the call leave it as it is.
+-- RSP points to the same place in both states, or nowhere known in the greater one
+abbrev pub HasRspOf : Key → AbsState → AbsState → Type 0
+HasRspOf key s t =
+    (location_of key (value_at t.regs 4) ≡ location_of key (value_at s.regs 4))
+    ⊎ (location_of key (value_at t.regs 4) ≡ None)
+
+-- a greater state describes too; at an inside site where RSP points to the same place
 abbrev pub GreaterDescribes : Type 0
 GreaterDescribes = (cfg : Description) (key : Key) (site : Site) (found : Option (Insn × ℕ)) (s t : AbsState)
     (S : State) → IsValid cfg → IsState s → IsState t → state_below s t ≡ true
-    → (site.inside ≡ true → (insn : Insn) (len : ℕ) (h : Handler) → found ≡ Some (insn, len)
-    → handler_called_by cfg insn ≡ Some h → called cfg key h t ≡ t)
-    → Describes cfg key site found s S → Describes cfg key site found t S
+    → (site.inside ≡ true → HasRspOf key s t) → Describes cfg key site found s S → Describes cfg key site found t S
