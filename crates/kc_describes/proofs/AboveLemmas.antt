@@ -1,7 +1,7 @@
 -- A call's changes that leave a state as it is leave a greater one too, where RSP points to the same place in both, or
 -- nowhere known in the greater one. By each slot and register: a top stays the top; where a join with an edit changes
 -- nothing, the edit is below the value, and so below a greater one; a value without an edited symbol has none above.
-use Rattle.std.proofs.Common.{◌≡◌, ℕ, zero, suc, ◌+◌, ◌<◌, ◌⊎◌, ◌||◌, inl, inr, Bool, true, false, cond, List, [], ◌∷◌, length, map, get_or, All, Option, Some, None, refl, sym, ap, ◌∙◌, subst, arith}
+use Rattle.std.proofs.Common.{◌≡◌, ℕ, suc, ◌+◌, ◌<◌, ◌⊎◌, ◌||◌, inl, inr, Bool, true, false, cond, List, [], ◌∷◌, length, map, Option, Some, None, refl, sym, ap, ◌∙◌, subst, arith}
 use Rattle.std.proofs.lemmas.Bool.{cases_Bool, cond-true, cond-false}
 use Rattle.std.proofs.lemmas.List.{get_or-map}
 use Rattle.std.proofs.lemmas.List.Elements.{All-get_or}
@@ -10,12 +10,9 @@ use Rattle.kc_regions.specs.Description.{Description}
 use Rattle.kc_regions.specs.declared.entry.Handler.{Handler}
 use Rattle.kc_value.specs.AbsValue.{AbsValue}
 use Rattle.kc_value.specs.Made.{plain}
-use Rattle.kc_value.specs.Symbol.{is_sym_below}
 use Rattle.kc_value.specs.SymbolLaws.{below_cases}
 use Rattle.kc_value.specs.Value.{IsValidValue, value_below, value_joined, value_top}
 use Rattle.kc_value.specs.ValueLaws.{value_laws, value_facts}
-use Rattle.kc_value.specs.declared.symbol.Sym.{Sym}
-use Rattle.kc_value.specs.declared.symbol.Sym.TheVariants.{Plain}
 use Rattle.kc_state.specs.Calls.{moved_down, moved_up, used, edited_rip, edited_flags, edited_rsp, is_edited_sym, tame, edited_by, edited, with_edits, frame_of, called_at, called}
 use Rattle.kc_state.specs.Location.{location_of}
 use Rattle.kc_state.specs.Memory.{is_just, meets_word, hits}
@@ -92,8 +89,8 @@ edits_top p l =
     pick_top (is_just l 8 p) (is_just (moved_up l 16) 8 p) (is_just (moved_up l 24) 8 p)
     (meets_word l 8 p || (meets_word (moved_up l 16) 8 p || meets_word (moved_up l 24) 8 p))
 
-both_still : (v w : AbsValue) (ok : IsValidValue v) (also : IsValidValue w) (below : value_below v w ≡ true) (hit : Bool)
-    (p : Option Location) (l : Location) → edited_by p l (cond hit value_top v) ≡ v
+both_still : (v w : AbsValue) (ok : IsValidValue v) (also : IsValidValue w) (below : value_below v w ≡ true)
+    (hit : Bool) (p : Option Location) (l : Location) → edited_by p l (cond hit value_top v) ≡ v
     → edited_by p l (cond hit value_top w) ≡ w
 both_still v w ok also below true p l still =
     let top = edits_top p l in top ∙ sym (top_above v w ok also below (sym top ∙ still))
@@ -156,8 +153,8 @@ module _ (cfg : Description) (key : Key) (h : Handler) (s t : AbsState) (is : Is
       items_still (used cfg key l h.stack) t.slots (λ j inside.
       let low : j < 296 = omega (arith, inside, also.slots.1) in
       let own = item_still (used cfg key l h.stack) s.slots j still (omega (arith, low, is.slots.1)) in
-      used_still (value_at s.slots j) (value_at t.slots j) (slot_ok j low) (slot_also j low) (slot_below j low) (hit l j)
-      own)
+      used_still (value_at s.slots j) (value_at t.slots j) (slot_ok j low) (slot_also j low) (slot_below j low)
+      (hit l j) own)
 
   slots_above : (l : Location) (n : ℕ)
       → redone (edited cfg key (moved_up l n)) 0 (redone (used cfg key l h.stack) 0 s.slots) ≡ s.slots
@@ -169,8 +166,8 @@ module _ (cfg : Description) (key : Key) (h : Handler) (s t : AbsState) (is : Is
       redone_both g f 0 t.slots ∙ items_still (λ j v. g j (f j v)) t.slots (λ j inside.
       let low : j < 296 = omega (arith, inside, also.slots.1) in
       let own = item_still (λ i v. g i (f i v)) s.slots j both (omega (arith, low, is.slots.1)) in
-      both_still (value_at s.slots j) (value_at t.slots j) (slot_ok j low) (slot_also j low) (slot_below j low) (hit l j)
-      (word_of cfg key j) (moved_up l n) own)
+      both_still (value_at s.slots j) (value_at t.slots j) (slot_ok j low) (slot_also j low) (slot_below j low)
+      (hit l j) (word_of cfg key j) (moved_up l n) own)
 
   regs_above : map tame s.regs ≡ s.regs → map tame t.regs ≡ t.regs
   regs_above still =

@@ -299,7 +299,8 @@ module _ (cfg : Description) (valid : IsValid cfg) (key : Key) (chain : List Act
   alu_by op w dest src x y f i j into from =
       operated_agrees w dest
       (alu_flags op (bits_of w) (bits_cut (bits_of w) x.bits) (bits_cut (bits_of w) y.bits) m.cpu.flags.bits)
-      (alu_result m op w x y) (abs_pair w dest src) (pair w dest src) f (effect.alu_result op w i j) into (pair_agrees w dest src into from) (alu_both op w x y i j)
+      (alu_result m op w x y) (abs_pair w dest src) (pair w dest src) f (effect.alu_result op w i j) into
+      (pair_agrees w dest src into from) (alu_both op w x y i j)
 
   pub alu_agrees : (op : AluOp) (w : Width) (dest : Place) (src : Source) (f i j : ℕ) → IsOperand (source_of dest)
       → IsOperand src

@@ -1,9 +1,8 @@
--- The changes of a handler's call keep what stands: a slot that the handler's stack may change becomes the top, one that
--- is a word of the frame is joined with what an edit may leave, and elsewhere a value at most loses its symbol. Each of
--- these stands for what the value stood for.
-use Rattle.std.proofs.Common.{◌≡◌, ℕ, zero, suc, ◌+◌, ◌-◌, ◌^◌, ◌<◌, ◌≤◌, ◌⊎◌, ◌||◌, max, min, inl, inr, Bool, true, false, cond, if◌then◌else◌, List, [], ◌∷◌, length, map, get_or, All, Option, Some, None, bit_and, bit_or, refl, sym, ap, ◌∙◌, subst, arith}
-use Rattle.std.specs.Int.{bit_at}
-use Rattle.std.proofs.lemmas.Bool.{cases_lt, cond_both, cond-false}
+-- The changes of a handler's call keep what stands: a slot that the handler's stack may change becomes the top, one
+-- that is a word of the frame is joined with what an edit may leave, and elsewhere a value at most loses its symbol.
+-- Each of these stands for what the value stood for.
+use Rattle.std.proofs.Common.{◌≡◌, ℕ, suc, ◌≤◌, ◌||◌, inl, inr, List, [], ◌∷◌, length, map, All, Option, Some, None, bit_or, refl, sym, ap, ◌∙◌, subst, arith}
+use Rattle.std.proofs.lemmas.Bool.{cases_lt, cond_both}
 use Rattle.std.proofs.lemmas.List.{get_or-map, get_or_past, length-map}
 use Rattle.std.proofs.lemmas.Nat.Bits.{bit_at_and, bit_at_or, bit_at-lt}
 use Rattle.kc_bits.specs.Bits.{StandsFor, bits_joined}
@@ -22,7 +21,6 @@ use Rattle.kc_value.specs.SymbolLaws.{joined_cases}
 use Rattle.kc_value.specs.Value.{Represents, value_joined, value_top}
 use Rattle.kc_value.specs.declared.env.ValueEnv.{ValueEnv}
 use Rattle.kc_value.specs.declared.symbol.Sym.{Sym}
-use Rattle.kc_value.specs.declared.symbol.Sym.TheVariants.{Plain}
 use Rattle.kc_words.specs.Range.{Range}
 use Rattle.kc_state.specs.Calls.{moved_up, used, edited_rip, edited_flags, edited_rsp, is_edited_sym, tame, edited_by, edited, with_edits, frame_of, called_at, called}
 use Rattle.kc_state.specs.Location.{location_of}
@@ -31,10 +29,10 @@ use Rattle.kc_state.specs.Places.{word_of}
 use Rattle.kc_state.specs.declared.key.Key.{Key}
 use Rattle.kc_state.specs.declared.location.Location.{Location}
 use Rattle.kc_state.specs.declared.state.AbsState.{AbsState}
-use Rattle.kc_describes.specs.Chain.{newest_of, env_of}
+use Rattle.kc_describes.specs.Chain.{env_of}
 use Rattle.kc_describes.specs.Describes.{AreBaseSlotsTop}
 use Rattle.kc_describes.specs.Fits.{ChainFits}
-use Rattle.kc_describes.specs.Places.{SlotsStand, WordStands}
+use Rattle.kc_describes.specs.Places.{SlotsStand}
 use Rattle.kc_describes.specs.Row.{value_at}
 use Rattle.kc_describes.specs.Widths.{IsActivation}
 use Rattle.kc_describes.proofs.SlotLemmas.{redone_stand}

@@ -1,16 +1,14 @@
 -- What of a description stays when an instruction changes the processor, the latches and memory: the chain, its floors
 -- and what is bound to them. And a greater state describes too, part by part: at an inside site where the changes of
 -- the call leave it as it is.
-use Rattle.std.proofs.Common.{◌≡◌, ℕ, zero, suc, ◌^◌, ◌<◌, ◌&&◌, Bool, true, false, List, [], ◌∷◌, length, get_or, Option, Some, None, IsSomeAnd, slice_get, refl, sym, ap, ◌∙◌, subst, arith}
+use Rattle.std.proofs.Common.{◌≡◌, ℕ, zero, suc, ◌^◌, ◌<◌, ◌&&◌, Bool, true, false, List, [], ◌∷◌, length, get_or, Option, Some, None, IsSomeAnd, slice_get, refl, sym, subst, arith}
 use Rattle.std.proofs.lemmas.Bool.{and_parts}
 use Rattle.std.proofs.lemmas.List.Elements.{All-get_or}
 use Rattle.kc_lattice.specs.Rows.{rows_below}
 use Rattle.kc_frames.specs.Floors.{IsFloor, FloorStands, floor_below, floor_top, floors_below}
 use Rattle.kc_frames.specs.FloorsLaws.{floor_grows}
 use Rattle.kc_insn.specs.declared.insn.Insn.{Insn}
-use Rattle.kc_insn.specs.declared.insn.Insn.TheVariants.{Call as CallInsn}
 use Rattle.kc_regions.specs.Description.{Description}
-use Rattle.kc_regions.specs.Lookup.{handler_of}
 use Rattle.kc_regions.specs.Valid.{IsValid}
 use Rattle.kc_regions.specs.declared.entry.Handler.{Handler}
 use Rattle.kc_cpu.specs.declared.cpu.Call.{Call}
@@ -30,8 +28,7 @@ use Rattle.kc_space.specs.declared.latches.Latches.{Latches}
 use Rattle.kc_value.specs.Value.{IsValidValue, Represents, value_below, value_top}
 use Rattle.kc_value.specs.ValueLaws.{value_grows, value_laws}
 use Rattle.kc_value.specs.declared.env.ValueEnv.{ValueEnv}
-use Rattle.kc_state.specs.AbsEvents.{handler_called_by}
-use Rattle.kc_state.specs.Calls.{called, called_handler}
+use Rattle.kc_state.specs.Calls.{called}
 use Rattle.kc_state.specs.Moment.{cpu_of}
 use Rattle.kc_state.specs.State.{IsState, state_below}
 use Rattle.kc_state.specs.declared.key.Key.{Key}
@@ -41,7 +38,7 @@ use Rattle.kc_state.proofs.StackLemmas.{stack_below}
 use Rattle.kc_describes.specs.Chain.{newest_of, env_of}
 use Rattle.kc_describes.specs.Describes.{AreBaseSlotsTop, IsInsideAt, IsAtPoint, Describes}
 use Rattle.kc_describes.specs.Fits.{IsKernelCpu}
-use Rattle.kc_describes.specs.Inside.{IsCallAt, IsHandlerRunning}
+use Rattle.kc_describes.specs.Inside.{IsHandlerRunning}
 use Rattle.kc_describes.specs.Places.{FloorsStand, SlotsStand}
 use Rattle.kc_describes.specs.Row.{value_at, RegistersStand, FileStands, RowStands}
 use Rattle.kc_describes.specs.Spaces.{GsStands, LatchesStand, gs_env, cr3_env}

@@ -1,12 +1,11 @@
 -- The operands of an instruction that has a spelling: each address has one of the four scales, and a displacement of a
 -- signed number of 32 bits, as its type says. By cases on the instruction.
-use Rattle.std.proofs.Common.{◌≡◌, ℕ, ◌<◌, ◌&&◌, ◌||◌, ◌==◌, nat_lt, not, inl, Bool, true, Option, Some, None, ℤ, arith}
+use Rattle.std.proofs.Common.{◌≡◌, ℕ, ◌&&◌, ◌||◌, ◌==◌, nat_lt, not, inl, true, Option, Some, None, ℤ, arith}
 use Rattle.std.specs.Prelude.{FitsSigned}
-use Rattle.std.specs.Int.{w32, w64}
+use Rattle.std.specs.Int.{w32}
 use Rattle.std.proofs.lemmas.Bool.{and_parts}
 use Rattle.std.proofs.lemmas.Int.{ints}
 use Rattle.kc_words.specs.declared.width.Width.{Width}
-use Rattle.kc_words.specs.declared.width.Width.TheVariants.{Byte, Long, Quad}
 use Rattle.kc_insn.specs.declared.insn.Base.{Base}
 use Rattle.kc_insn.specs.declared.insn.Base.TheVariants as base
 use Rattle.kc_insn.specs.declared.insn.Insn.{Insn}
@@ -17,7 +16,7 @@ use Rattle.kc_insn.specs.declared.insn.Place.TheVariants as place
 use Rattle.kc_insn.specs.declared.insn.Reg.{Reg}
 use Rattle.kc_insn.specs.declared.insn.Source.{Source}
 use Rattle.kc_insn.specs.declared.insn.Source.TheVariants as source
-use Rattle.kc_insn.specs.Encodable.{is_register, is_index, is_address, is_memory, is_place, is_wide, is_immediate, is_move, is_pair, is_test, is_pushed, is_signed_long, is_encodable}
+use Rattle.kc_insn.specs.Encodable.{is_register, is_index, is_address, is_memory, is_place, is_wide, is_immediate, is_move, is_pair, is_test, is_pushed, is_encodable}
 use Rattle.kc_insn.specs.Fields.{source_of}
 use Rattle.kc_state.specs.Scaled.{IsScaled}
 use Rattle.kc_describes.proofs.AccessLemmas.{HasOperands}

@@ -1,21 +1,21 @@
--- The changes of a handler's call, made twice, are those made once. RSP's location is the same, since a value that loses
--- its symbol points where it did; a slot that is hit is the top, which every edit keeps; a join with an edit is above the
--- edit; and a value without an edited symbol stays.
-use Rattle.std.proofs.Common.{◌≡◌, ℕ, suc, ◌+◌, ◌<◌, ◌||◌, inl, inr, Bool, true, false, cond, if◌then◌else◌, List, [], ◌∷◌, length, map, get_or, All, Option, Some, None, option_map, refl, sym, ap, ◌∙◌, subst, arith, lit<}
-use Rattle.std.proofs.lemmas.Bool.{cases_Bool, cond_both, cond-true, cond-false}
+-- The changes of a handler's call, made twice, are those made once. RSP's location is the same, since a value that
+-- loses its symbol points where it did; a slot that is hit is the top, which every edit keeps; a join with an edit is
+-- above the edit; and a value without an edited symbol stays.
+use Rattle.std.proofs.Common.{◌≡◌, ℕ, suc, ◌||◌, inl, inr, Bool, true, false, cond, if◌then◌else◌, List, [], ◌∷◌, map, All, Option, Some, None, refl, sym, ap, ◌∙◌, arith, lit<}
+use Rattle.std.proofs.lemmas.Bool.{cases_Bool, cond-true, cond-false}
 use Rattle.std.proofs.lemmas.List.{get_or-map}
 use Rattle.std.proofs.lemmas.List.Elements.{All-head, All-tail}
-use Rattle.kc_bits.specs.Bits.{IsValid as AreBitsValid, bits_single}
+use Rattle.kc_bits.specs.Bits.{bits_single}
 use Rattle.kc_frames.specs.Slots.{redone}
 use Rattle.kc_regions.specs.Description.{Description}
 use Rattle.kc_regions.specs.declared.entry.Handler.{Handler}
 use Rattle.kc_value.specs.AbsValue.{AbsValue}
 use Rattle.kc_value.specs.Made.{plain}
-use Rattle.kc_value.specs.Value.{IsValidValue, value_below, value_joined, value_top}
+use Rattle.kc_value.specs.Value.{IsValidValue, value_joined, value_top}
 use Rattle.kc_value.specs.ValueLaws.{value_laws}
 use Rattle.kc_value.specs.declared.symbol.Sym.{Sym}
 use Rattle.kc_value.specs.declared.symbol.Sym.TheVariants.{Plain, Base, Entry, UserGs}
-use Rattle.kc_state.specs.Calls.{moved_down, moved_up, used, edited_rip, edited_flags, edited_rsp, is_edited_word, is_edited_sym, tame, edited_by, edited, with_edits, frame_of, called_at, called}
+use Rattle.kc_state.specs.Calls.{moved_down, moved_up, used, edited_rip, edited_flags, edited_rsp, is_edited_sym, tame, edited_by, edited, with_edits, frame_of, called_at, called}
 use Rattle.kc_state.specs.Location.{symbol_location, location_of}
 use Rattle.kc_state.specs.Memory.{is_just, meets_word, hits}
 use Rattle.kc_state.specs.Places.{location_stack, word_of}
