@@ -1,0 +1,2 @@
+//! Laws of the rounds that lead to the iteration limit.
+#![tactic(auto)]
