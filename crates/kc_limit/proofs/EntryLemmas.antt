@@ -114,9 +114,9 @@ module _ {K X : Type 0} (R : K → K → Ordering) (o : IsTotalOrder R) where
   sum-put f k v [] h = omega arith
   sum-put f k v (e ∷ es) h =
       let one = sum_by-cons (λ e. f e.1) e es in
-      let rest = sum-put f k v es (second _ _ h) in
+      let rest = sum-put f k v es (second (below_all R e.0 es) (is_sorted R es) h) in
       elim (R k e.0) as (λ r. R k e.0 ≡ r → sum_by (λ e. f e.1) (by_order r ((k, v) ∷ e ∷ es) ((e.0, v) ∷ es) (e ∷ put R k v es))
-          + unwrap_or (option_map f (cond (is_eq r) (Some e.1) (find R k es))) 0 ≡ sum_by (λ e. f e.1) (e ∷ es) + f v) [
+      + unwrap_or (option_map f (cond (is_eq r) (Some e.1) (find R k es))) 0 ≡ sum_by (λ e. f e.1) (e ∷ es) + f v) [
         | Less ↦ λ p.
             let new = sum_by-cons (λ e. f e.1) (k, v) (e ∷ es) in
             let none : find R k es ≡ None = find-below k es (below-less k e.0 es p (first _ _ h)) in

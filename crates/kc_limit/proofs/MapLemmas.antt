@@ -9,19 +9,15 @@ use Rattle.std.specs.Ordering.{eq_by_cmp}
 use Rattle.std.specs.declared.cmp.Ordering.{Ordering}
 use Rattle.std.specs.declared.cmp.Ordering.TheVariants.{Equal}
 use Rattle.kc_lattice.specs.Laws.{Laws, AllAlike}
-use Rattle.kc_limit.specs.Order.{also, IsPartBelow, IsMapBelow}
+use Rattle.kc_cert.specs.IterationLimit.{also}
+use Rattle.kc_limit.specs.Order.{IsPartBelow, IsMapBelow}
+use Rattle.kc_limit.specs.Valid.{IsMap}
 use Rattle.kc_limit.proofs.EntryLemmas.{entries-same, keys-put}
 use Rattle.kc_limit.proofs.PartLemmas.{part-refl, part-trans, part-antisym, also-valid, also-left, also-right, also-least}
 
 -- the value joined in at the key
 abbrev pub raised : {K X : Type 0} {R : K → K → Ordering} → (X → X → X) → FinMap R X → K → X → FinMap R X
 raised joined m k x = insert m k (also joined (get m k) x)
-
--- the keys keep P, and each value is valid
-pub record IsMap {K X : Type 0} {R : K → K → Ordering} (P : K → Type 0) (valid : X → Type 0) (m : FinMap R X) : Type 0
-  where
-    pub keys : All (λ e. P e.0) (entries m)
-    pub values : (k : K) → IfSome (get m k) valid
 
 module _ {K X : Type 0} {R : K → K → Ordering} (o : IsTotalOrder R) {valid : X → Type 0} {below : X → X → Bool}
     {joined : X → X → X} {top_of : X → X} {rank : X → ℕ}

@@ -2,7 +2,8 @@
 -- is that of the domain, by cases on what is there.
 use Rattle.std.proofs.Common.{◌≡◌, ℕ, Bool, true, Option, Some, None, IfSome, IsSomeAnd, refl, ap, sym, subst}
 use Rattle.kc_lattice.specs.Laws.{Laws, AllAlike}
-use Rattle.kc_limit.specs.Order.{also, IsPartBelow}
+use Rattle.kc_cert.specs.IterationLimit.{also}
+use Rattle.kc_limit.specs.Order.{IsPartBelow}
 
 module _ {X : Type 0} {valid : X → Type 0} {below : X → X → Bool} {joined : X → X → X} {top_of : X → X} {rank : X → ℕ}
     (laws : Laws valid AllAlike below joined top_of rank) where

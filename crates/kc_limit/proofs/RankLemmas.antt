@@ -1,16 +1,19 @@
 -- Maps of values that rise by joins have a measure that never rises and, where it stays, nothing has changed: the ranks of the
 -- values, and for each value that may still come more than any rank. A new value pays for its rank, and a value that rises has a
 -- lesser rank; the laws of the domain say both, and the sum after a put adds them up.
-use Rattle.std.proofs.Common.{◌≡◌, ℕ, suc, ◌+◌, ◌-◌, ◌*◌, ◌<◌, ◌≤◌, ◌⊎◌, Bool, true, false, cond, List, Option, Some, None, IfSome, sum_by, unwrap_or, option_map, is_some, refl, sym, ap, ◌∙◌, subst, arith}
+use Rattle.std.proofs.Common.{◌≡◌, ℕ, suc, ◌+◌, ◌-◌, ◌*◌, ◌<◌, ◌≤◌, ◌⊎◌, Bool, true, false, cond, List, Option, Some, None, IfSome, inl, inr, ⊎_elim, sum_by, unwrap_or, option_map, is_some, refl, sym, ap, ◌∙◌, subst, arith}
+use Rattle.std.proofs.lemmas.Bool.{cases_lt, cond_both}
 use Rattle.std.specs.Cmp.{IsTotalOrder}
-use Rattle.std.specs.FinMap.{FinMap, entries, entries_sorted, entries-insert, get, get-entries, len, len-entries, len-insert}
-use Rattle.std.specs.FinMap.Entries.{find}
+use Rattle.std.specs.FinMap.{FinMap, entries, entries_sorted, entries-insert, get, get-entries, contains_key, len, len-insert}
+use Rattle.std.specs.FinMap.Entries.{find, put}
 use Rattle.std.specs.declared.cmp.Ordering.{Ordering}
 use Rattle.std.specs.declared.cmp.Ordering.TheVariants.{Equal}
 use Rattle.kc_lattice.specs.Laws.{Laws, AllAlike}
-use Rattle.kc_limit.specs.Order.{also, IsPartBelow}
+use Rattle.kc_cert.specs.IterationLimit.{also}
+use Rattle.kc_limit.specs.Order.{IsPartBelow}
+use Rattle.kc_limit.specs.Valid.{IsMap}
 use Rattle.kc_limit.proofs.EntryLemmas.{sum-put}
-use Rattle.kc_limit.proofs.MapLemmas.{IsMap, raised, raised-same}
+use Rattle.kc_limit.proofs.MapLemmas.{raised, raised-same}
 
 -- the ranks of the values, and more than a rank for each value that may come until there are so many
 abbrev pub potential : {K X : Type 0} {R : K → K → Ordering} → ℕ → ℕ → (X → ℕ) → FinMap R X → ℕ
@@ -35,7 +38,7 @@ module _ {K X : Type 0} {R : K → K → Ordering} (o : IsTotalOrder R) {valid :
       subst (λ es. sum_by (λ e. rank e.1) es + unwrap_or (option_map rank (get m k)) 0
       ≡ sum_by (λ e. rank e.1) (entries m) + rank (also joined (get m k) x))
       (sym (entries-insert o m k (also joined (get m k) x)))
-      (subst (λ p. sum_by (λ e. rank e.1) (put' R k (also joined (get m k) x) (entries m)) + unwrap_or (option_map rank p) 0
+      (subst (λ p. sum_by (λ e. rank e.1) (put R k (also joined (get m k) x) (entries m)) + unwrap_or (option_map rank p) 0
       ≡ sum_by (λ e. rank e.1) (entries m) + rank (also joined (get m k) x))
       (sym (get-entries m k))
       (sum-put R o rank k (also joined (get m k) x) (entries m) (entries_sorted m)))
@@ -57,7 +60,26 @@ module _ {K X : Type 0} {R : K → K → Ordering} (o : IsTotalOrder R) {valid :
       let up = laws.join_left y x hp hx tt in
       let vj = laws.join_valid y x hp hx tt in
       let falls : rank (joined y x) ≤ rank y = laws.rank_falls y (joined y x) hp vj up in
-      by-rank (rank y ≤? rank (joined y x))
-    where
-      todo : ℕ
-      todo = 0
+      let new = sum_by (λ e. rank e.1) (entries (raised joined m k x)) in
+      let old = sum_by (λ e. rank e.1) (entries m) in
+      ⊎_elim
+      (λ less. inl (subst (λ n. new + (most - n) * (weight + 1) < old + (most - len m) * (weight + 1)) (sym count)
+      (omega (arith, less, sum))))
+      (λ no. let tied : rank y ≡ rank (joined y x) = omega (arith, falls, no) in
+      let is : y ≡ joined y x = laws.rank_tied y (joined y x) hp vj up tied in
+      let has : below x y ≡ true = subst (λ z. below x z ≡ true) (sym is) (laws.join_right y x hp hx tt) in
+      inr (raised-same o laws P same m k x h hk hx (subst (λ p. IsPartBelow below (Some x) p) (sym e) has)))
+      (cases_lt (rank (joined y x)) (rank y))
+
+  -- with a value joined in, the measure is less, or nothing has changed
+  pub raised-falls : (m : FinMap R X) (k : K) (x : X) → IsMap P valid m → P k → valid x → len (raised joined m k x) ≤ most
+      → (potential most weight rank (raised joined m k x) < potential most weight rank m) ⊎ (raised joined m k x ≡ m)
+  raised-falls m k x h hk hx few =
+      by-found m k x (get m k) h hk hx refl (h.values k) few (sum-raised m k x)
+      (len-insert o m k (also joined (get m k) x))
+
+  -- keys come, and none goes
+  pub len-raised : (m : FinMap R X) (k : K) (x : X) → len m ≤ len (raised joined m k x)
+  len-raised m k x =
+      subst (λ n. len m ≤ n) (sym (len-insert o m k (also joined (get m k) x)))
+      (cond_both (contains_key m k) (len m) (len m + 1) (λ n. len m ≤ n) (λ e. omega arith) (λ e. omega arith))
