@@ -17,12 +17,12 @@ use Rattle.kc_state.specs.declared.site.Site.{Site}
 use Rattle.kc_value.specs.Made.{IsPlace}
 use Rattle.kc_cert.specs.IterationLimit.{place_numbers, place_order}
 use Rattle.kc_cert.specs.Table.{key_order}
-use Rattle.kc_limit.specs.Valid.{HasPlace, HasKeyPlace}
+use Rattle.kc_limit.specs.Valid.{IsKeyValue, IsNodePlace}
 
-abbrev bit : Bool → ℕ
+abbrev pub bit : Bool → ℕ
 bit b = cond b 1 0
 
-abbrev turned : Bool → ℕ
+abbrev pub turned : Bool → ℕ
 turned b = cond b 0 1
 
 bit-same : (a b : Bool) → bit a ≡ bit b → a ≡ b
@@ -37,7 +37,7 @@ turned-same true false e = absurd (omega (arith, e))
 turned-same false true e = absurd (omega (arith, e))
 turned-same false false e = refl
 
-who-few : (x : Who) → who_number x ≤ 2
+pub who-few : (x : Who) → who_number x ≤ 2
 who-few Kernel = omega arith
 who-few User = omega arith
 who-few Any = omega arith
@@ -84,14 +84,14 @@ base-same None (Some y) e f = absurd (omega (arith, e))
 base-same (Some x) None e f = absurd (omega (arith, e))
 base-same (Some x) (Some y) e f = ap Some f
 
-key-same : (k l : Key) → HasPlace k → HasPlace l → key_numbers k ≡ key_numbers l → k ≡ l
+key-same : (k l : Key) → IsKeyValue k → IsKeyValue l → key_numbers k ≡ key_numbers l → k ≡ l
 key-same k l h g e =
     let syscall = turned-same k.syscall l.syscall (ap (λ (ns : List ℕ). get_or ns 0 0) e) in
     let vector : k.vector ≡ l.vector = ap (λ (ns : List ℕ). get_or ns 1 0) e in
     let kernel = bit-same k.kernel l.kernel (ap (λ (ns : List ℕ). get_or ns 2 0) e) in
     let gs = gs-same k.gs l.gs (ap (λ (ns : List ℕ). get_or ns 3 0) e) in
     let space = map-same k.map l.map (ap (λ (ns : List ℕ). get_or ns 4 0) e) in
-    let stack = stack-same k.stack l.stack h g (ap (λ (ns : List ℕ). get_or ns 5 0) e) in
+    let stack = stack-same k.stack l.stack h.place g.place (ap (λ (ns : List ℕ). get_or ns 5 0) e) in
     let base = base-same k.base l.base (ap (λ (ns : List ℕ). get_or ns 6 0) e) (ap (λ (ns : List ℕ). get_or ns 7 0) e) in
     λ i. record {
       syscall = syscall i;
@@ -103,17 +103,17 @@ key-same k l h g e =
       base = base i;
     }
 
-pub key-told : (k l : Key) → HasPlace k → HasPlace l → key_order k l ≡ Equal → k ≡ l
+pub key-told : (k l : Key) → IsKeyValue k → IsKeyValue l → key_order k l ≡ Equal → k ≡ l
 key-told k l h g e = key-same k l h g (exact_bytes (key_numbers k) (key_numbers l) e)
 
-place-same : (p q : Key × Site) → HasKeyPlace p → HasKeyPlace q → place_numbers p ≡ place_numbers q → p ≡ q
+place-same : (p q : Key × Site) → IsNodePlace p → IsNodePlace q → place_numbers p ≡ place_numbers q → p ≡ q
 place-same (k, s) (l, r) h g e =
-    let key = key-same k l h g (ap (λ (ns : List ℕ). take 8 ns) e) in
+    let key = key-same k l h.0 g.0 (ap (λ (ns : List ℕ). take 8 ns) e) in
     let at : s.at ≡ r.at = ap (λ (ns : List ℕ). get_or ns 8 0) e in
     let inside = bit-same s.inside r.inside (ap (λ (ns : List ℕ). get_or ns 9 0) e) in
     λ i. (key i, record { at = at i; inside = inside i })
 
-pub place-told : (p q : Key × Site) → HasKeyPlace p → HasKeyPlace q → place_order p q ≡ Equal → p ≡ q
+pub place-told : (p q : Key × Site) → IsNodePlace p → IsNodePlace q → place_order p q ≡ Equal → p ≡ q
 place-told p q h g e = place-same p q h g (exact_bytes (place_numbers p) (place_numbers q) e)
 
 pub key-total : IsTotalOrder key_order

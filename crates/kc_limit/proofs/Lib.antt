@@ -2,6 +2,10 @@ pub mod PartLemmas
 pub mod EntryLemmas
 pub mod MapLemmas
 pub mod RankLemmas
+pub mod CountLemmas
 pub mod KeyLemmas
+pub mod DigitLemmas
 pub mod TableLemmas
+pub mod RoundLemmas
 pub mod LimitLemmas
+pub mod ExistLemmas

@@ -18,7 +18,7 @@ use Rattle.kc_cert.specs.Conditions.{start_user}
 use Rattle.kc_cert.specs.IterationLimit.{Demand, ForUser, ForContext, ForClobber, ForNode, IsIterationLimit, Table, add, also, demands, next_table, place_order, table_after}
 use Rattle.kc_cert.specs.Table.{key_order}
 use Rattle.kc_limit.specs.Order.{IsBelow, IsClosed, Fits, Holds}
-use Rattle.kc_limit.specs.Valid.{IsTable, IsDemand, IsRounds, HasPlace, HasKeyPlace}
+use Rattle.kc_limit.specs.Valid.{IsTable, IsDemand, IsRounds, IsKeyValue, IsNodePlace}
 use Rattle.kc_limit.proofs.KeyLemmas.{key-total, place-total}
 use Rattle.kc_limit.proofs.TableLemmas.{all-hold, all-same, all-table, all-above}
 
@@ -109,11 +109,11 @@ module _ (image : Contents) (d : Description) where
   round-table valid zero = record {
     user = valid.start;
     contexts = record {
-      keys = subst (λ es. All (λ e. HasPlace e.0) es) (sym (no-entries key_order ClobberSets)) (All-nil (λ e. HasPlace e.0));
+      keys = subst (λ es. All (λ e. IsKeyValue e.0) es) (sym (no-entries key_order ClobberSets)) (All-nil (λ e. IsKeyValue e.0));
       values = λ k. subst (λ p. IfSome p IsClobber) (sym (get-empty key_order k)) tt;
     };
     nodes = record {
-      keys = subst (λ es. All (λ e. HasKeyPlace e.0) es) (sym (no-entries place_order AbsState)) (All-nil (λ e. HasKeyPlace e.0));
+      keys = subst (λ es. All (λ e. IsNodePlace e.0) es) (sym (no-entries place_order AbsState)) (All-nil (λ e. IsNodePlace e.0));
       values = λ k. subst (λ p. IfSome p IsState) (sym (get-empty place_order k)) tt;
     };
   }

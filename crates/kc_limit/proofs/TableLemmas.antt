@@ -16,14 +16,14 @@ use Rattle.kc_state.specs.UserLaws.{user_laws}
 use Rattle.kc_state.specs.declared.key.Key.{Key}
 use Rattle.kc_cert.specs.IterationLimit.{Demand, ForUser, ForContext, ForClobber, ForNode, Table, add, also}
 use Rattle.kc_limit.specs.Order.{IsBelow, IsPartBelow, Holds}
-use Rattle.kc_limit.specs.Valid.{IsTable, IsDemand, HasPlace, HasKeyPlace}
+use Rattle.kc_limit.specs.Valid.{IsTable, IsDemand, IsKeyValue, IsNodePlace}
 use Rattle.kc_limit.proofs.KeyLemmas.{key-told, key-total, place-told, place-total}
 use Rattle.kc_limit.proofs.MapLemmas.{map-antisym, map-refl, map-trans, raised, raised-above, raised-has, raised-least, raised-map}
 use Rattle.kc_limit.proofs.PartLemmas.{part-trans}
 
 -- ---- a context that is there may write nothing
 
-nothing-valid : IsClobber nothing_written
+pub nothing-valid : IsClobber nothing_written
 nothing-valid = record { stacks_fit = omega arith; words_fit = omega arith }
 
 no-more : (c : ClobberSets) → clobber_joined c nothing_written ≡ c
@@ -51,13 +51,13 @@ there-is None h = absurd h
 there-is (Some c) h = refl
 
 -- a context is demanded as one that writes nothing
-abbrev plain : Demand → Demand
+abbrev pub plain : Demand → Demand
 plain (ForUser u) = ForUser u
 plain (ForContext key) = ForClobber key nothing_written
 plain (ForClobber key c) = ForClobber key c
 plain (ForNode key site s) = ForNode key site s
 
-add-plain : (t : Table) (x : Demand) → add t x ≡ add t (plain x)
+pub add-plain : (t : Table) (x : Demand) → add t x ≡ add t (plain x)
 add-plain t (ForUser u) = refl
 add-plain t (ForContext key) =
     ap (λ (c : ClobberSets). record t { contexts = insert t.contexts key c }) (nothing-joined (get t.contexts key))
@@ -85,9 +85,9 @@ below-trans t u v ht hu hv a b = record {
 pub below-antisym : (t u : Table) → IsTable t → IsTable u → IsBelow t u → IsBelow u t → t ≡ u
 below-antisym t u ht hu a b =
     let user = user_laws.below_antisym t.user u.user ht.user hu.user a.user b.user in
-    let contexts = map-antisym key-total clobber_laws HasPlace key-told t.contexts u.contexts ht.contexts hu.contexts
+    let contexts = map-antisym key-total clobber_laws IsKeyValue key-told t.contexts u.contexts ht.contexts hu.contexts
     a.contexts b.contexts in
-    let nodes = map-antisym place-total state_laws HasKeyPlace place-told t.nodes u.nodes ht.nodes hu.nodes a.nodes b.nodes
+    let nodes = map-antisym place-total state_laws IsNodePlace place-told t.nodes u.nodes ht.nodes hu.nodes a.nodes b.nodes
     in
     λ i. record { user = user i; contexts = contexts i; nodes = nodes i }
 
@@ -145,7 +145,7 @@ has t (ForContext key) h hx =
 has t (ForClobber key c) h hx = raised-has key-total clobber_laws t.contexts key c h.contexts.values hx.1
 has t (ForNode key site s) h hx = raised-has place-total state_laws t.nodes (key, site) s h.nodes.values hx.1
 
-table : (t : Table) (x : Demand) → IsTable t → IsDemand x → IsTable (add t (plain x))
+pub table : (t : Table) (x : Demand) → IsTable t → IsDemand x → IsTable (add t (plain x))
 table t (ForUser u) h hx = record {
   user = user_laws.join_valid t.user u h.user hx tt;
   contexts = h.contexts;
@@ -154,17 +154,17 @@ table t (ForUser u) h hx = record {
 table t (ForContext key) h hx = record {
   user = h.user;
   nodes = h.nodes;
-  contexts = raised-map key-total clobber_laws HasPlace key-told t.contexts key nothing_written h.contexts hx nothing-valid;
+  contexts = raised-map key-total clobber_laws IsKeyValue key-told t.contexts key nothing_written h.contexts hx nothing-valid;
 }
 table t (ForClobber key c) h hx = record {
   user = h.user;
   nodes = h.nodes;
-  contexts = raised-map key-total clobber_laws HasPlace key-told t.contexts key c h.contexts hx.0 hx.1;
+  contexts = raised-map key-total clobber_laws IsKeyValue key-told t.contexts key c h.contexts hx.0 hx.1;
 }
 table t (ForNode key site s) h hx = record {
   user = h.user;
   contexts = h.contexts;
-  nodes = raised-map place-total state_laws HasKeyPlace place-told t.nodes (key, site) s h.nodes hx.0 hx.1;
+  nodes = raised-map place-total state_laws IsNodePlace place-told t.nodes (key, site) s h.nodes hx.0 hx.1;
 }
 
 least : (t u : Table) (x : Demand) → IsTable t → IsTable u → IsDemand x → IsBelow t u → Holds u (plain x)

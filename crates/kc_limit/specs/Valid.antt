@@ -1,6 +1,6 @@
 -- Which tables and demands are of values in their ranges: numbers that fit their fields, and keys with a stack that there may
 -- be. This project's own.
-use Rattle.std.specs.Prelude.{ℕ, List, All, IfSome}
+use Rattle.std.specs.Prelude.{ℕ, ◌<◌, ◌^◌, List, All, IfSome}
 use Rattle.std.specs.FinMap as finite
 use Rattle.std.specs.declared.cmp.Ordering.{Ordering}
 use Rattle.kc_frames.specs.Clobber.{IsClobber}
@@ -15,11 +15,13 @@ use Rattle.kc_cert.specs.IterationLimit.{Demand, ForUser, ForContext, ForClobber
 use Rattle.kc_cert.specs.Conditions.{start_user}
 
 -- such keys are told apart by their numbers
-abbrev pub HasPlace : Key → Type 0
-HasPlace key = IsPlace key.stack
+pub record IsKeyValue (key : Key) : Type 0 where
+  pub place : IsPlace key.stack
+  pub vector : key.vector < 256
+  pub base : IfSome key.base (λ b. b < 2 ^ 64)
 
-abbrev pub HasKeyPlace : Key × Site → Type 0
-HasKeyPlace place = HasPlace place.0
+abbrev pub IsNodePlace : Key × Site → Type 0
+IsNodePlace place = IsKeyValue place.0 × (place.1.at < 2 ^ 64)
 
 -- the keys keep P, and each value is valid
 pub record IsMap {K X : Type 0} {R : K → K → Ordering} (P : K → Type 0) (valid : X → Type 0) (m : finite.FinMap R X)
@@ -29,14 +31,14 @@ pub record IsMap {K X : Type 0} {R : K → K → Ordering} (P : K → Type 0) (v
 
 pub record IsTable (t : Table) : Type 0 where
   pub user : IsUserState t.user
-  pub contexts : IsMap HasPlace IsClobber t.contexts
-  pub nodes : IsMap HasKeyPlace IsState t.nodes
+  pub contexts : IsMap IsKeyValue IsClobber t.contexts
+  pub nodes : IsMap IsNodePlace IsState t.nodes
 
 abbrev pub IsDemand : Demand → Type 0
 IsDemand (ForUser u) = IsUserState u
-IsDemand (ForContext key) = HasPlace key
-IsDemand (ForClobber key c) = HasPlace key × IsClobber c
-IsDemand (ForNode key site s) = HasPlace key × IsState s
+IsDemand (ForContext key) = IsKeyValue key
+IsDemand (ForClobber key c) = IsKeyValue key × IsClobber c
+IsDemand (ForNode key site s) = IsNodePlace (key, site) × IsState s
 
 -- all that the rounds join is valid
 pub record IsRounds (image : Contents) (d : Description) : Type 0 where

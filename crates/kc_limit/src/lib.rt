@@ -3,4 +3,4 @@
 
 mod laws;
 
-pub use laws::{demands_joined, iteration_limit};
+pub use laws::{demands_joined, iteration_limit, shorter_round};
