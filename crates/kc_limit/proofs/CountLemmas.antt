@@ -1,6 +1,6 @@
 -- How many keys a map may have: a key's numbers are the digits of a number, a greater key has a greater one, and of numbers below
 -- a bound no more rise than the bound says.
-use Rattle.std.proofs.Common.{◌≡◌, ℕ, zero, suc, ◌+◌, ◌*◌, ◌^◌, ◌<◌, ◌≤◌, T, List, [], ◌∷◌, All, length, mul-le-mul_right, mul_comm, pow-suc, suc-mul, refl, sym, ap, ◌∙◌, subst, arith}
+use Rattle.std.proofs.Common.{◌≡◌, ℕ, suc, ◌+◌, ◌*◌, ◌^◌, ◌<◌, ◌≤◌, T, List, [], ◌∷◌, All, length, mul-le-mul_right, mul_comm, pow-suc, suc-mul, sym, ap, ◌∙◌, subst, arith}
 use Rattle.std.proofs.Math.Nat.{pow-zero}
 use Rattle.std.proofs.lemmas.Bool.{false≢true}
 use Rattle.std.proofs.lemmas.List.Elements.{All-head, All-tail}

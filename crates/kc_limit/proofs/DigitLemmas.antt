@@ -1,5 +1,5 @@
 -- How many contexts and nodes a table of the rounds may have: the numbers of a key, and of a place, are digits.
-use Rattle.std.proofs.Common.{◌≡◌, ℕ, ◌+◌, ◌*◌, ◌^◌, ◌<◌, ◌≤◌, Bool, true, false, Option, Some, None, All, IfSome, is_some, unwrap_or, refl, arith}
+use Rattle.std.proofs.Common.{◌≡◌, ℕ, ◌^◌, ◌<◌, ◌≤◌, Bool, true, false, Option, Some, None, IfSome, is_some, unwrap_or, refl, arith}
 use Rattle.std.proofs.lemmas.List.Elements.{All-from_recursion}
 use Rattle.std.specs.FinMap.{FinMap, len}
 use Rattle.std.specs.declared.cmp.Ordering.TheVariants.{Less}

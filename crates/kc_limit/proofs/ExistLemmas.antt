@@ -3,7 +3,7 @@
 use Rattle.std.proofs.Common.{◌≡◌, ◌⊎◌, inl, inr, ⊎_elim, ℕ, zero, suc, ◌+◌, ◌-◌, ◌*◌, ◌^◌, ◌<◌, ◌≤◌, List, [], ◌∷◌, All, fold, le_refl, refl, sym, ap, ◌∙◌, subst, arith}
 use Rattle.std.proofs.lemmas.Bool.{cases_lt}
 use Rattle.std.proofs.lemmas.List.Elements.{All-head, All-tail}
-use Rattle.std.specs.FinMap.{FinMap, entries, get, len}
+use Rattle.std.specs.FinMap.{FinMap, len}
 use Rattle.kc_frames.specs.Clobber.{IsClobber, clobber_joined, clobber_rank, nothing_written}
 use Rattle.kc_frames.specs.ClobberLaws.{clobber_laws, clobber_rank-le}
 use Rattle.kc_frames.specs.ClobberSets.{ClobberSets}
@@ -16,7 +16,7 @@ use Rattle.kc_state.specs.UserLaws.{user_laws}
 use Rattle.kc_state.specs.declared.key.Key.{Key}
 use Rattle.kc_state.specs.declared.site.Site.{Site}
 use Rattle.kc_state.specs.declared.state.AbsState.{AbsState}
-use Rattle.kc_cert.specs.IterationLimit.{Demand, ForUser, ForContext, ForClobber, ForNode, IsIterationLimit, Table, add, demands, next_table, place_order, table_after}
+use Rattle.kc_cert.specs.IterationLimit.{Demand, ForUser, ForContext, ForClobber, ForNode, IsIterationLimit, Table, add, demands, place_order, table_after}
 use Rattle.kc_cert.specs.Table.{key_order}
 use Rattle.kc_limit.specs.Valid.{IsTable, IsDemand, IsKeyValue, IsMap, IsNodePlace, IsRounds}
 use Rattle.kc_limit.proofs.DigitLemmas.{few-contexts, few-nodes}

@@ -17,7 +17,7 @@ use Rattle.kc_state.specs.declared.state.AbsState.{AbsState}
 use Rattle.kc_cert.specs.Conditions.{start_user}
 use Rattle.kc_cert.specs.IterationLimit.{Demand, ForUser, ForContext, ForClobber, ForNode, IsIterationLimit, Table, add, also, demands, next_table, place_order, table_after}
 use Rattle.kc_cert.specs.Table.{key_order}
-use Rattle.kc_limit.specs.Order.{IsBelow, IsClosed, Fits, Holds}
+use Rattle.kc_limit.specs.Order.{IsClosed, Fits, Holds}
 use Rattle.kc_limit.specs.Valid.{IsTable, IsDemand, IsRounds, IsKeyValue, IsNodePlace}
 use Rattle.kc_limit.proofs.KeyLemmas.{key-total, place-total}
 use Rattle.kc_limit.proofs.TableLemmas.{all-hold, all-same, all-table, all-above}

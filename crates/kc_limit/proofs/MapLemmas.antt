@@ -1,8 +1,7 @@
 -- Maps of values that rise by joins: the map with a value joined in at a key is the least one above the map that has the value
 -- there. All is read through look-ups, key by key, and two maps are equal where look-ups give the same.
-use Rattle.std.proofs.Common.{◌≡◌, ℕ, Bool, true, false, cond, List, Option, Some, None, All, IfSome, refl, sym, ap, ◌∙◌, subst}
-use Rattle.std.proofs.lemmas.Bool.{cases_Bool, cond-true, cond-false}
-use Rattle.std.proofs.lemmas.List.Elements.{All-nil}
+use Rattle.std.proofs.Common.{◌≡◌, ℕ, Bool, true, false, cond, Option, Some, All, IfSome, refl, sym, ◌∙◌, subst}
+use Rattle.std.proofs.lemmas.Bool.{cond-true}
 use Rattle.std.specs.Cmp.{IsTotalOrder, Equal-is, eq_by_cmp_equiv}
 use Rattle.std.specs.FinMap.{FinMap, entries, entries_sorted, entries-insert, get, get-entries, get-insert, get_tied, insert, same_entries_map}
 use Rattle.std.specs.Ordering.{eq_by_cmp}

@@ -1,6 +1,6 @@
 -- The order of what may be missing: a missing value is below all, and the join with a value is the least upper bound. Each law
 -- is that of the domain, by cases on what is there.
-use Rattle.std.proofs.Common.{◌≡◌, ℕ, Bool, true, Option, Some, None, IfSome, IsSomeAnd, refl, ap, sym, subst}
+use Rattle.std.proofs.Common.{◌≡◌, ℕ, Bool, Option, Some, None, IfSome, refl, ap}
 use Rattle.kc_lattice.specs.Laws.{Laws, AllAlike}
 use Rattle.kc_cert.specs.IterationLimit.{also}
 use Rattle.kc_limit.specs.Order.{IsPartBelow}

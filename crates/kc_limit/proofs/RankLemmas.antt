@@ -1,11 +1,11 @@
 -- Maps of values that rise by joins have a measure that never rises and, where it stays, nothing has changed: the ranks of the
 -- values, and for each value that may still come more than any rank. A new value pays for its rank, and a value that rises has a
 -- lesser rank; the laws of the domain say both, and the sum after a put adds them up.
-use Rattle.std.proofs.Common.{◌≡◌, ℕ, suc, ◌+◌, ◌-◌, ◌*◌, ◌<◌, ◌≤◌, ◌⊎◌, Bool, true, false, cond, List, Option, Some, None, IfSome, inl, inr, ⊎_elim, sum_by, unwrap_or, option_map, is_some, refl, sym, ap, ◌∙◌, subst, arith}
+use Rattle.std.proofs.Common.{◌≡◌, ℕ, suc, ◌+◌, ◌-◌, ◌*◌, ◌<◌, ◌≤◌, ◌⊎◌, Bool, true, cond, Option, Some, None, IfSome, inl, inr, ⊎_elim, sum_by, unwrap_or, option_map, is_some, refl, sym, subst, arith}
 use Rattle.std.proofs.lemmas.Bool.{cases_lt, cond_both}
 use Rattle.std.specs.Cmp.{IsTotalOrder}
 use Rattle.std.specs.FinMap.{FinMap, entries, entries_sorted, entries-insert, get, get-entries, contains_key, len, len-insert}
-use Rattle.std.specs.FinMap.Entries.{find, put}
+use Rattle.std.specs.FinMap.Entries.{put}
 use Rattle.std.specs.declared.cmp.Ordering.{Ordering}
 use Rattle.std.specs.declared.cmp.Ordering.TheVariants.{Equal}
 use Rattle.kc_lattice.specs.Laws.{Laws, AllAlike}

@@ -1,5 +1,5 @@
 -- What a search may leave out of a round: demands that the table has, and nodes that demand the same as before.
-use Rattle.std.proofs.Common.{◌≡◌, ◌⊎◌, inl, inr, ⊎_elim, ℕ, List, [], ◌∷◌, ◌++◌, All, Contains, flat_map, fold, get_or, if◌then◌else◌, refl, ap, ◌∙◌}
+use Rattle.std.proofs.Common.{◌≡◌, ◌⊎◌, ⊎_elim, List, [], ◌∷◌, ◌++◌, All, Contains, flat_map, fold, get_or, if◌then◌else◌, refl, ap, ◌∙◌}
 use Rattle.std.proofs.lemmas.List.Elements.{All-contains, All-head, All-tail}
 use Rattle.kc_image.specs.Image.{Contents}
 use Rattle.kc_regions.specs.Description.{Description}

@@ -1,7 +1,7 @@
 -- Tables that rise by demands: a table joined with demands is the least one that is above it and has them, so their order and
 -- repeats don't matter; what it has already changes nothing; and tables that are below each other are equal. Each part is a map
 -- whose values rise by joins, or a value of a domain.
-use Rattle.std.proofs.Common.{◌≡◌, ◌==◌, ℕ, Bool, true, List, [], ◌∷◌, Option, Some, None, All, IfSome, IsSome, fold, unwrap_or, refl, sym, ap, ◌∙◌, subst, arith}
+use Rattle.std.proofs.Common.{◌≡◌, ◌==◌, ℕ, true, List, [], ◌∷◌, Option, Some, None, All, IsSome, fold, unwrap_or, refl, sym, ap, subst, arith}
 use Rattle.std.proofs.lemmas.Bool.{and_from}
 use Rattle.std.proofs.lemmas.List.Elements.{All-nil, All-cons, All-head, All-tail}
 use Rattle.std.specs.FinMap.{get, insert}
@@ -9,16 +9,13 @@ use Rattle.std.specs.Int.Bits.{and_zero_r, or_zero_r}
 use Rattle.kc_frames.specs.Clobber.{IsClobber, clobber_below, clobber_joined, nothing_written}
 use Rattle.kc_frames.specs.ClobberLaws.{clobber_laws}
 use Rattle.kc_frames.specs.ClobberSets.{ClobberSets}
-use Rattle.kc_state.specs.State.{state_joined}
 use Rattle.kc_state.specs.StateLaws.{state_laws}
-use Rattle.kc_state.specs.User.{user_joined}
 use Rattle.kc_state.specs.UserLaws.{user_laws}
-use Rattle.kc_state.specs.declared.key.Key.{Key}
 use Rattle.kc_cert.specs.IterationLimit.{Demand, ForUser, ForContext, ForClobber, ForNode, Table, add, also}
 use Rattle.kc_limit.specs.Order.{IsBelow, IsPartBelow, Holds}
 use Rattle.kc_limit.specs.Valid.{IsTable, IsDemand, IsKeyValue, IsNodePlace}
 use Rattle.kc_limit.proofs.KeyLemmas.{key-told, key-total, place-told, place-total}
-use Rattle.kc_limit.proofs.MapLemmas.{map-antisym, map-refl, map-trans, raised, raised-above, raised-has, raised-least, raised-map}
+use Rattle.kc_limit.proofs.MapLemmas.{map-antisym, map-refl, map-trans, raised-above, raised-has, raised-least, raised-map}
 use Rattle.kc_limit.proofs.PartLemmas.{part-trans}
 
 -- ---- a context that is there may write nothing

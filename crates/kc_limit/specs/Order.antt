@@ -1,5 +1,5 @@
 -- The order of tables of the rounds, and when a table has what is demanded. This project's own.
-use Rattle.std.specs.Prelude.{◌≡◌, ℕ, ◌≤◌, Bool, true, Option, Some, All, IfSome, IsSome, IsSomeAnd}
+use Rattle.std.specs.Prelude.{◌≡◌, ◌≤◌, Bool, true, Option, Some, All, IfSome, IsSome, IsSomeAnd}
 use Rattle.std.specs.FinMap as finite
 use Rattle.std.specs.declared.cmp.Ordering.{Ordering}
 use Rattle.kc_frames.specs.Clobber.{clobber_below}
