@@ -1,5 +1,5 @@
--- How many keys a map may have: a key's numbers are the digits of a number, a greater key has a greater one, and of numbers below
--- a bound no more rise than the bound says.
+-- How many keys a map may have: a key's numbers are the digits of a number, a greater key has a greater one, and of
+-- numbers below a bound no more rise than the bound says.
 use Rattle.std.proofs.Common.{◌≡◌, ℕ, suc, ◌+◌, ◌*◌, ◌^◌, ◌<◌, ◌≤◌, T, List, [], ◌∷◌, All, length, mul-le-mul_right, mul_comm, pow-suc, suc-mul, sym, ap, ◌∙◌, subst, arith}
 use Rattle.std.proofs.Math.Nat.{pow-zero}
 use Rattle.std.proofs.lemmas.Bool.{false≢true}
@@ -33,7 +33,8 @@ module _ (base : ℕ) where
   code-bound [] h = let one : base ^ 0 ≡ 1 = pow-zero base in omega (arith, one)
   code-bound (x ∷ xs) h =
       let rest = code-bound xs (All-tail (λ x. x < base) x xs h) in
-      let more : base ^ suc (length xs) ≡ base * base ^ length xs = pow-suc base (length xs) ∙ mul_comm (base ^ length xs) base in
+      let more : base ^ suc (length xs) ≡ base * base ^ length xs = pow-suc base (length xs) ∙ mul_comm
+      (base ^ length xs) base in
       subst (λ n. code (x ∷ xs) < n) (sym more)
       (one-digit x (base ^ length xs) (code xs) (All-head (λ x. x < base) x xs h) rest)
 
@@ -43,7 +44,8 @@ module _ (base : ℕ) where
       let split : suc x * p ≡ x * p + p = suc-mul x p in
       omega (arith, hc, up, split)
 
-  pub code-rises : (xs ys : List ℕ) → AreDigits xs → AreDigits ys → length xs ≡ length ys → slice_cmp nat_cmp xs ys ≡ Less
+  pub code-rises : (xs ys : List ℕ) → AreDigits xs → AreDigits ys → length xs ≡ length ys
+      → slice_cmp nat_cmp xs ys ≡ Less
       → code xs < code ys
   code-rises [] [] hx hy e is = absurd (false≢true (ap is_lt is))
   code-rises [] (y ∷ ys) hx hy e is = absurd (omega (arith, e))
@@ -60,7 +62,8 @@ module _ (base : ℕ) where
       ys-digits : AreDigits ys
       ys-digits = All-tail (λ x. x < base) y ys hy
 
-      by : (slice_cmp nat_cmp xs ys ≡ Less → code xs < code ys) → (r : Ordering) → MatchOrdering r (x < y) (x ≡ y) (y < x) → ordering_then r (slice_cmp nat_cmp xs ys) ≡ Less
+      by : (slice_cmp nat_cmp xs ys ≡ Less → code xs < code ys) → (r : Ordering)
+          → MatchOrdering r (x < y) (x ≡ y) (y < x) → ordering_then r (slice_cmp nat_cmp xs ys) ≡ Less
           → code (x ∷ xs) < code (y ∷ ys)
       by later Less lt h =
           subst (λ n. code (x ∷ xs) < y * base ^ n + code ys) long

@@ -79,7 +79,8 @@ module _ (base : ℕ) (wide : 2 ^ 64 ≤ base) where
   few-contexts m h =
       few-keys key_order IsKeyValue (λ k. code base (key_numbers k)) (base ^ 8)
       (λ k v. code-bound base (key_numbers k) (key-digits k v))
-      (λ k l v w less. code-rises base (key_numbers k) (key_numbers l) (key-digits k v) (key-digits l w) refl less) m h.keys
+      (λ k l v w less. code-rises base (key_numbers k) (key_numbers l) (key-digits k v) (key-digits l w) refl less)
+      m h.keys
 
   place-bound : (p : Key × Site) → IsNodePlace p → code base (place_numbers p) < base ^ 10
   place-bound (k, site) v = code-bound base (place_numbers (k, site)) (place-digits (k, site) v)
@@ -87,7 +88,8 @@ module _ (base : ℕ) (wide : 2 ^ 64 ≤ base) where
   place-rises : (p q : Key × Site) → IsNodePlace p → IsNodePlace q → place_order p q ≡ Less
       → code base (place_numbers p) < code base (place_numbers q)
   place-rises (k, s) (l, r) v w less =
-      code-rises base (place_numbers (k, s)) (place_numbers (l, r)) (place-digits (k, s) v) (place-digits (l, r) w) refl less
+      code-rises base (place_numbers (k, s)) (place_numbers (l, r)) (place-digits (k, s) v) (place-digits (l, r) w)
+      refl less
 
   pub few-nodes : (m : FinMap place_order AbsState) → IsMap IsNodePlace IsState m → len m ≤ base ^ 10
   few-nodes m h =

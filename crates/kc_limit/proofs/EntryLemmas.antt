@@ -1,5 +1,5 @@
--- Lists of entries in the order of their keys: two lists in which look-ups give the same are equal, where keys that tie are equal
--- at least among theirs; the keys after a put; and the sum over the values after a put.
+-- Lists of entries in the order of their keys: two lists in which look-ups give the same are equal, where keys that
+-- tie are equal at least among theirs; the keys after a put; and the sum over the values after a put.
 use Rattle.std.proofs.Common.{◌≡◌, ◌≢◌, ℕ, ◌+◌, Bool, true, false, cond, ◌&&◌, T, List, [], ◌∷◌, Some, None, All, sum_by, unwrap_or, option_map, is_some, refl, sym, ap, ◌∙◌, subst, arith}
 use Rattle.std.proofs.lemmas.List.Elements.{All-nil, All-cons, All-head, All-tail}
 use Rattle.std.proofs.lemmas.List.Sums.{sum_by-cons}
@@ -67,7 +67,8 @@ module _ {K X : Type 0} (R : K → K → Ordering) (o : IsTotalOrder R) where
   tails : (k q : K) (v w : X) (es fs : List (K × X)) → T (below_all R k es) → T (below_all R k fs)
       → find R q ((k, v) ∷ es) ≡ find R q ((k, w) ∷ fs) → find R q es ≡ find R q fs
   tails k q v w es fs g h =
-      elim (eq_by_cmp R q k) as (λ b. eq_by_cmp R q k ≡ b → cond b (Some v) (find R q es) ≡ cond b (Some w) (find R q fs)
+      elim (eq_by_cmp R q k) as (λ b. eq_by_cmp R q k ≡ b
+      → cond b (Some v) (find R q es) ≡ cond b (Some w) (find R q fs)
       → find R q es ≡ find R q fs) [
         | true ↦ λ p is. let t = equal _ (subst T (sym p) tt) in
             find-below q es (below-tied q k es t g) ∙ sym (find-below q fs (below-tied q k fs t h))
@@ -115,7 +116,8 @@ module _ {K X : Type 0} (R : K → K → Ordering) (o : IsTotalOrder R) where
   sum-put f k v (e ∷ es) h =
       let one = sum_by-cons (λ e. f e.1) e es in
       let rest = sum-put f k v es (second (below_all R e.0 es) (is_sorted R es) h) in
-      elim (R k e.0) as (λ r. R k e.0 ≡ r → sum_by (λ e. f e.1) (by_order r ((k, v) ∷ e ∷ es) ((e.0, v) ∷ es) (e ∷ put R k v es))
+      elim (R k e.0) as (λ r. R k e.0 ≡ r
+      → sum_by (λ e. f e.1) (by_order r ((k, v) ∷ e ∷ es) ((e.0, v) ∷ es) (e ∷ put R k v es))
       + unwrap_or (option_map f (cond (is_eq r) (Some e.1) (find R k es))) 0 ≡ sum_by (λ e. f e.1) (e ∷ es) + f v) [
         | Less ↦ λ p.
             let new = sum_by-cons (λ e. f e.1) (k, v) (e ∷ es) in

@@ -1,5 +1,5 @@
--- The limit is reached: each round of demands lowers a measure of the table, or changes nothing. The measure adds up the ranks of
--- all values, and for each key that may still come more than any rank.
+-- The limit is reached: each round of demands lowers a measure of the table, or changes nothing. The measure adds up
+-- the ranks of all values, and for each key that may still come more than any rank.
 use Rattle.std.proofs.Common.{◌≡◌, ◌⊎◌, inl, inr, ⊎_elim, ℕ, zero, suc, ◌+◌, ◌-◌, ◌*◌, ◌^◌, ◌<◌, ◌≤◌, List, [], ◌∷◌, All, fold, le_refl, refl, sym, ap, ◌∙◌, subst, arith}
 use Rattle.std.proofs.lemmas.Bool.{cases_lt}
 use Rattle.std.proofs.lemmas.List.Elements.{All-head, All-tail}
@@ -40,25 +40,30 @@ module _ (most_contexts most_nodes weight_context weight_node : ℕ)
   by-contexts : (t u : Table) (key : Key) (c : ClobberSets) → IsTable t → IsTable u → IsKeyValue key → IsClobber c
       → u ≡ record t { contexts = raised clobber_joined t.contexts key c } → (measure u < measure t) ⊎ (u ≡ t)
   by-contexts t u key c h hu hk hc is =
-      let few = contexts-few (raised clobber_joined t.contexts key c) (subst (λ (v : Table). IsMap IsKeyValue IsClobber v.contexts) is hu.contexts) in
+      let few = contexts-few (raised clobber_joined t.contexts key c)
+      (subst (λ (v : Table). IsMap IsKeyValue IsClobber v.contexts) is hu.contexts) in
       ⊎_elim
       (λ lower. inl (subst (λ v. measure v < measure t) (sym is) (omega (arith, lower))))
       (λ same. inr (is ∙ ap (λ (m : FinMap key_order ClobberSets). record t { contexts = m }) same))
-      (raised-falls key-total clobber_laws most_contexts weight_context context-rank IsKeyValue key-told t.contexts key c h.contexts hk hc
+      (raised-falls key-total clobber_laws most_contexts weight_context context-rank IsKeyValue key-told t.contexts
+      key c h.contexts hk hc
       few)
 
   by-nodes : (t u : Table) (key : Key) (site : Site) (s : AbsState) → IsTable t → IsTable u → IsNodePlace (key, site)
       → IsState s → u ≡ record t { nodes = raised state_joined t.nodes (key, site) s }
       → (measure u < measure t) ⊎ (u ≡ t)
   by-nodes t u key site s h hu hk hs is =
-      let few = nodes-few (raised state_joined t.nodes (key, site) s) (subst (λ (v : Table). IsMap IsNodePlace IsState v.nodes) is hu.nodes) in
+      let few = nodes-few (raised state_joined t.nodes (key, site) s)
+      (subst (λ (v : Table). IsMap IsNodePlace IsState v.nodes) is hu.nodes) in
       ⊎_elim
       (λ lower. inl (subst (λ v. measure v < measure t) (sym is) (omega (arith, lower))))
       (λ same. inr (is ∙ ap (λ (m : FinMap place_order AbsState). record t { nodes = m }) same))
-      (raised-falls place-total state_laws most_nodes weight_node node-rank IsNodePlace place-told t.nodes (key, site) s h.nodes
+      (raised-falls place-total state_laws most_nodes weight_node node-rank IsNodePlace place-told t.nodes
+      (key, site) s h.nodes
       hk hs few)
 
-  plain-falls : (t : Table) (x : Demand) → IsTable t → IsDemand x → (measure (add t (plain x)) < measure t) ⊎ (add t (plain x) ≡ t)
+  plain-falls : (t : Table) (x : Demand) → IsTable t → IsDemand x
+      → (measure (add t (plain x)) < measure t) ⊎ (add t (plain x) ≡ t)
   plain-falls t (ForUser u) h hx =
       let vj = user_laws.join_valid t.user u h.user hx tt in
       let up = user_laws.join_left t.user u h.user hx tt in
@@ -70,7 +75,8 @@ module _ (most_contexts most_nodes weight_context weight_node : ℕ)
       inr (λ i. record { user = sym same i; contexts = t.contexts; nodes = t.nodes }))
       (cases_lt (user_rank (user_joined t.user u)) (user_rank t.user))
   plain-falls t (ForContext key) h hx =
-      by-contexts t (add t (plain (ForContext key))) key nothing_written h (table t (ForContext key) h hx) hx nothing-valid
+      by-contexts t (add t (plain (ForContext key))) key nothing_written h (table t (ForContext key) h hx) hx
+      nothing-valid
       refl
   plain-falls t (ForClobber key c) h hx =
       by-contexts t (add t (plain (ForClobber key c))) key c h (table t (ForClobber key c) h hx) hx.0 hx.1 refl
@@ -115,4 +121,5 @@ module _ (most_contexts most_nodes weight_context weight_node : ℕ)
 pub limit-exists : (image : Contents) (d : Description) → IsRounds image d → (t : Table) × IsIterationLimit image d t
 limit-exists =
     limit-from ((2 ^ 64) ^ 8) ((2 ^ 64) ^ 10) (2 ^ 40 + 2 ^ 16) (313 * (2 ^ 64 + 2 ^ 17) + 6 + 16 * (2 ^ 64 - 1))
-    (few-contexts (2 ^ 64) (le_refl (2 ^ 64))) (few-nodes (2 ^ 64) (le_refl (2 ^ 64))) (λ c h. clobber_rank-le c) state_rank-le
+    (few-contexts (2 ^ 64) (le_refl (2 ^ 64))) (few-nodes (2 ^ 64) (le_refl (2 ^ 64))) (λ c h. clobber_rank-le c)
+    state_rank-le

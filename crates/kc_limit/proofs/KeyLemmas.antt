@@ -1,5 +1,5 @@
--- Keys with a stack that there may be are told apart by their numbers, and so are places of nodes: each field is read from the
--- number that stands for it.
+-- Keys with a stack that there may be are told apart by their numbers, and so are places of nodes: each field is read
+-- from the number that stands for it.
 use Rattle.std.proofs.Common.{◌≡◌, ℕ, ◌≤◌, Bool, true, false, cond, List, Option, Some, None, get_or, is_some, take, unwrap_or, refl, ap, arith}
 use Rattle.std.proofs.lemmas.Map.Lookups.{exact_bytes}
 use Rattle.std.specs.Cmp.{IsTotalOrder}
@@ -92,7 +92,8 @@ key-same k l h g e =
     let gs = gs-same k.gs l.gs (ap (λ (ns : List ℕ). get_or ns 3 0) e) in
     let space = map-same k.map l.map (ap (λ (ns : List ℕ). get_or ns 4 0) e) in
     let stack = stack-same k.stack l.stack h.place g.place (ap (λ (ns : List ℕ). get_or ns 5 0) e) in
-    let base = base-same k.base l.base (ap (λ (ns : List ℕ). get_or ns 6 0) e) (ap (λ (ns : List ℕ). get_or ns 7 0) e) in
+    let base = base-same k.base l.base (ap (λ (ns : List ℕ). get_or ns 6 0) e)
+    (ap (λ (ns : List ℕ). get_or ns 7 0) e) in
     λ i. record {
       syscall = syscall i;
       vector = vector i;

@@ -1,5 +1,5 @@
--- The rounds and their limit: a table whose round changes nothing is one that has all that it demands, two such tables of the
--- rounds are equal, and the tables of the rounds rise.
+-- The rounds and their limit: a table whose round changes nothing is one that has all that it demands, two such
+-- tables of the rounds are equal, and the tables of the rounds rise.
 use Rattle.std.proofs.Common.{◌≡◌, ℕ, zero, suc, ◌+◌, ◌-◌, ◌≤◌, true, List, [], ◌∷◌, All, IfSome, ⊎_elim, fold, length, le_trans, unwrap_or, refl, sym, ap, ◌∙◌, subst, arith}
 use Rattle.std.proofs.lemmas.Bool.{cases_lt, cond_both}
 use Rattle.std.proofs.lemmas.List.Elements.{All-nil}
@@ -54,7 +54,8 @@ module _ (image : Contents) (d : Description) where
 
   pub limit-once : (t u : Table) → IsIterationLimit image d t → IsIterationLimit image d u → t ≡ u
   limit-once t u a b =
-      ⊎_elim (λ less. sym (later u t b.0 a.0 b.1 b.2 a.1 (omega (arith, less)))) (λ le. later t u a.0 b.0 a.1 a.2 b.1 le)
+      ⊎_elim (λ less. sym (later u t b.0 a.0 b.1 b.2 a.1 (omega (arith, less))))
+      (λ le. later t u a.0 b.0 a.1 a.2 b.1 le)
       (cases_lt b.0 a.0)
 
 -- ---- tables of the rounds never get smaller
@@ -109,16 +110,19 @@ module _ (image : Contents) (d : Description) where
   round-table valid zero = record {
     user = valid.start;
     contexts = record {
-      keys = subst (λ es. All (λ e. IsKeyValue e.0) es) (sym (no-entries key_order ClobberSets)) (All-nil (λ e. IsKeyValue e.0));
+      keys = subst (λ es. All (λ e. IsKeyValue e.0) es) (sym (no-entries key_order ClobberSets))
+          (All-nil (λ e. IsKeyValue e.0));
       values = λ k. subst (λ p. IfSome p IsClobber) (sym (get-empty key_order k)) tt;
     };
     nodes = record {
-      keys = subst (λ es. All (λ e. IsNodePlace e.0) es) (sym (no-entries place_order AbsState)) (All-nil (λ e. IsNodePlace e.0));
+      keys = subst (λ es. All (λ e. IsNodePlace e.0) es) (sym (no-entries place_order AbsState))
+          (All-nil (λ e. IsNodePlace e.0));
       values = λ k. subst (λ p. IfSome p IsState) (sym (get-empty place_order k)) tt;
     };
   }
   round-table valid (suc n) =
-      all-table (table_after image d n) (demands image d (table_after image d n)) (round-table valid n) (valid.demands n)
+      all-table (table_after image d n) (demands image d (table_after image d n)) (round-table valid n)
+      (valid.demands n)
 
   pub start-below : IsRounds image d → (n : ℕ) → user_below (start_user d) (table_after image d n).user ≡ true
   start-below valid zero = user_laws.below_refl (start_user d) valid.start

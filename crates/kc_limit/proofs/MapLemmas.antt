@@ -1,5 +1,5 @@
--- Maps of values that rise by joins: the map with a value joined in at a key is the least one above the map that has the value
--- there. All is read through look-ups, key by key, and two maps are equal where look-ups give the same.
+-- Maps of values that rise by joins: the map with a value joined in at a key is the least one above the map that has
+-- the value there. All is read through look-ups, key by key, and two maps are equal where look-ups give the same.
 use Rattle.std.proofs.Common.{◌≡◌, ℕ, Bool, true, false, cond, Option, Some, All, IfSome, refl, sym, ◌∙◌, subst}
 use Rattle.std.proofs.lemmas.Bool.{cond-true}
 use Rattle.std.specs.Cmp.{IsTotalOrder, Equal-is, eq_by_cmp_equiv}
@@ -57,7 +57,8 @@ module _ {K X : Type 0} {R : K → K → Ordering} (o : IsTotalOrder R) {valid :
       → IsPartBelow below (Some x) (get (raised joined m k x) k)
   raised-has m k x h hx =
       subst (λ p. IsPartBelow below (Some x) p)
-      (sym (get-raised m k x k ∙ cond-true (eq_by_cmp R k k) (Some (also joined (get m k) x)) (get m k) ((eq_by_cmp_equiv o).refl k)))
+      (sym (get-raised m k x k ∙ cond-true (eq_by_cmp R k k) (Some (also joined (get m k) x)) (get m k)
+      ((eq_by_cmp_equiv o).refl k)))
       (also-right laws (get m k) x (h k) hx)
 
   pub raised-least : (m n : FinMap R X) (k : K) (x : X) → ((k : K) → IfSome (get m k) valid)
@@ -69,14 +70,16 @@ module _ {K X : Type 0} {R : K → K → Ordering} (o : IsTotalOrder R) {valid :
       a
 
   module _ (P : K → Type 0) (same : (x y : K) → P x → P y → R x y ≡ Equal → x ≡ y) where
-    pub raised-map : (m : FinMap R X) (k : K) (x : X) → IsMap P valid m → P k → valid x → IsMap P valid (raised joined m k x)
+    pub raised-map : (m : FinMap R X) (k : K) (x : X) → IsMap P valid m → P k → valid x
+        → IsMap P valid (raised joined m k x)
     raised-map m k x h hk hx = record {
       keys = subst (λ es. All (λ e. P e.0) es) (sym (entries-insert o m k (also joined (get m k) x)))
           (keys-put R o P k (also joined (get m k) x) (entries m) hk h.keys);
       values = raised-values m k x h.values hx;
     }
 
-    pub map-antisym : (m n : FinMap R X) → IsMap P valid m → IsMap P valid n → IsMapBelow below m n → IsMapBelow below n m
+    pub map-antisym : (m n : FinMap R X) → IsMap P valid m → IsMap P valid n → IsMapBelow below m n
+        → IsMapBelow below n m
         → m ≡ n
     map-antisym m n hm hn a b =
         same_entries_map m n

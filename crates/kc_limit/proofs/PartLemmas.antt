@@ -1,5 +1,5 @@
--- The order of what may be missing: a missing value is below all, and the join with a value is the least upper bound. Each law
--- is that of the domain, by cases on what is there.
+-- The order of what may be missing: a missing value is below all, and the join with a value is the least upper bound.
+-- Each law is that of the domain, by cases on what is there.
 use Rattle.std.proofs.Common.{◌≡◌, ℕ, Bool, Option, Some, None, IfSome, refl, ap}
 use Rattle.kc_lattice.specs.Laws.{Laws, AllAlike}
 use Rattle.kc_cert.specs.IterationLimit.{also}
@@ -14,7 +14,8 @@ module _ {X : Type 0} {valid : X → Type 0} {below : X → X → Bool} {joined 
   part-refl None h = tt
   part-refl (Some x) h = laws.below_refl x h
 
-  pub part-trans : (p q r : Option X) → IfSome p valid → IfSome q valid → IfSome r valid → Below p q → Below q r → Below p r
+  pub part-trans : (p q r : Option X) → IfSome p valid → IfSome q valid → IfSome r valid → Below p q → Below q r
+      → Below p r
   part-trans None q r hp hq hr h k = tt
   part-trans (Some x) None r hp hq hr h k = absurd h
   part-trans (Some x) (Some y) None hp hq hr h k = absurd k

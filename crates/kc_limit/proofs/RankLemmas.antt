@@ -1,6 +1,6 @@
--- Maps of values that rise by joins have a measure that never rises and, where it stays, nothing has changed: the ranks of the
--- values, and for each value that may still come more than any rank. A new value pays for its rank, and a value that rises has a
--- lesser rank; the laws of the domain say both, and the sum after a put adds them up.
+-- Maps of values that rise by joins have a measure that never rises and, where it stays, nothing has changed: the
+-- ranks of the values, and for each value that may still come more than any rank. A new value pays for its rank, and
+-- a value that rises has a lesser rank; the laws of the domain say both, and the sum after a put adds them up.
 use Rattle.std.proofs.Common.{◌≡◌, ℕ, suc, ◌+◌, ◌-◌, ◌*◌, ◌<◌, ◌≤◌, ◌⊎◌, Bool, true, cond, Option, Some, None, IfSome, inl, inr, ⊎_elim, sum_by, unwrap_or, option_map, is_some, refl, sym, subst, arith}
 use Rattle.std.proofs.lemmas.Bool.{cases_lt, cond_both}
 use Rattle.std.specs.Cmp.{IsTotalOrder}
@@ -38,7 +38,8 @@ module _ {K X : Type 0} {R : K → K → Ordering} (o : IsTotalOrder R) {valid :
       subst (λ es. sum_by (λ e. rank e.1) es + unwrap_or (option_map rank (get m k)) 0
       ≡ sum_by (λ e. rank e.1) (entries m) + rank (also joined (get m k) x))
       (sym (entries-insert o m k (also joined (get m k) x)))
-      (subst (λ p. sum_by (λ e. rank e.1) (put R k (also joined (get m k) x) (entries m)) + unwrap_or (option_map rank p) 0
+      (subst (λ p. sum_by (λ e. rank e.1) (put R k (also joined (get m k) x) (entries m)) + unwrap_or
+      (option_map rank p) 0
       ≡ sum_by (λ e. rank e.1) (entries m) + rank (also joined (get m k) x))
       (sym (get-entries m k))
       (sum-put R o rank k (also joined (get m k) x) (entries m) (entries_sorted m)))
@@ -72,7 +73,8 @@ module _ {K X : Type 0} {R : K → K → Ordering} (o : IsTotalOrder R) {valid :
       (cases_lt (rank (joined y x)) (rank y))
 
   -- with a value joined in, the measure is less, or nothing has changed
-  pub raised-falls : (m : FinMap R X) (k : K) (x : X) → IsMap P valid m → P k → valid x → len (raised joined m k x) ≤ most
+  pub raised-falls : (m : FinMap R X) (k : K) (x : X) → IsMap P valid m → P k → valid x
+      → len (raised joined m k x) ≤ most
       → (potential most weight rank (raised joined m k x) < potential most weight rank m) ⊎ (raised joined m k x ≡ m)
   raised-falls m k x h hk hx few =
       by-found m k x (get m k) h hk hx refl (h.values k) few (sum-raised m k x)

@@ -13,7 +13,8 @@ use Rattle.kc_limit.proofs.TableLemmas.{all-above, all-equal, all-hold, all-tabl
 pub some-enough : (t : Table) (some all : List Demand) → IsTable t → All IsDemand all → All (Contains all) some
     → All (λ x. Holds t x ⊎ Contains some x) all → fold add t some ≡ fold add t all
 some-enough t some all h hx among others =
-    all-equal t some all h valid hx (λ k x lt. All-contains (Holds (fold add t all)) all _ (all-hold t all h hx) (among k x lt))
+    all-equal t some all h valid hx
+    (λ k x lt. All-contains (Holds (fold add t all)) all _ (all-hold t all h hx) (among k x lt))
     (λ k x lt.
     ⊎_elim
     (λ has. holds-up t (fold add t some) (get_or all k x) h (all-table t some h valid) (hx k x lt) has
@@ -35,7 +36,8 @@ pub same-demands : (image : Contents) (d : Description) (t u : Table) (p : Place
     → node_demands image d t p ≡ node_demands image d u p
 same-demands image d t u p h =
     let events = flat-same (event_demands image d t p) (event_demands image d u p) (events_of d p)
-    (λ k v lt. ap (λ s. entry_demands d (entered_by d p (get_or (events_of d p) k v)) ++ return_demands d p s) (h k v lt)) in
+    (λ k v lt. ap (λ s. entry_demands d (entered_by d p (get_or (events_of d p) k v)) ++ return_demands d p s)
+    (h k v lt)) in
     ap (λ (events : List Demand).
     if passes d p
     then successor_demands p (successors d p) ++ events ++ ForClobber p.key (written_by d p) ∷ user_demands_at p

@@ -1,6 +1,6 @@
--- Tables that rise by demands: a table joined with demands is the least one that is above it and has them, so their order and
--- repeats don't matter; what it has already changes nothing; and tables that are below each other are equal. Each part is a map
--- whose values rise by joins, or a value of a domain.
+-- Tables that rise by demands: a table joined with demands is the least one that is above it and has them, so their
+-- order and repeats don't matter; what it has already changes nothing; and tables that are below each other are
+-- equal. Each part is a map whose values rise by joins, or a value of a domain.
 use Rattle.std.proofs.Common.{◌≡◌, ◌==◌, ℕ, true, List, [], ◌∷◌, Option, Some, None, All, IsSome, fold, unwrap_or, refl, sym, ap, subst, arith}
 use Rattle.std.proofs.lemmas.Bool.{and_from}
 use Rattle.std.proofs.lemmas.List.Elements.{All-nil, All-cons, All-head, All-tail}
@@ -84,7 +84,8 @@ below-antisym t u ht hu a b =
     let user = user_laws.below_antisym t.user u.user ht.user hu.user a.user b.user in
     let contexts = map-antisym key-total clobber_laws IsKeyValue key-told t.contexts u.contexts ht.contexts hu.contexts
     a.contexts b.contexts in
-    let nodes = map-antisym place-total state_laws IsNodePlace place-told t.nodes u.nodes ht.nodes hu.nodes a.nodes b.nodes
+    let nodes = map-antisym place-total state_laws IsNodePlace place-told t.nodes u.nodes ht.nodes hu.nodes a.nodes
+    b.nodes
     in
     λ i. record { user = user i; contexts = contexts i; nodes = nodes i }
 
@@ -151,7 +152,8 @@ table t (ForUser u) h hx = record {
 table t (ForContext key) h hx = record {
   user = h.user;
   nodes = h.nodes;
-  contexts = raised-map key-total clobber_laws IsKeyValue key-told t.contexts key nothing_written h.contexts hx nothing-valid;
+  contexts = raised-map key-total clobber_laws IsKeyValue key-told t.contexts key nothing_written h.contexts hx
+      nothing-valid;
 }
 table t (ForClobber key c) h hx = record {
   user = h.user;

@@ -1,5 +1,5 @@
--- Which tables and demands are of values in their ranges: numbers that fit their fields, and keys with a stack that there may
--- be. This project's own.
+-- Which tables and demands are of values in their ranges: numbers that fit their fields, and keys with a stack that
+-- there may be. This project's own.
 use Rattle.std.specs.Prelude.{ℕ, ◌<◌, ◌^◌, All, IfSome}
 use Rattle.std.specs.FinMap as finite
 use Rattle.std.specs.declared.cmp.Ordering.{Ordering}
