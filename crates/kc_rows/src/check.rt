@@ -1,10 +1,9 @@
 //! The words of the modes, the order in which the files are read, and their limits.
 
 use crate::files::{Files, bytes_of};
-use crate::small::S0_SHARED;
 use kc_gen::Sample;
 use kc_io::MemFiles;
-use kc_runs::{ended, ended_over, ends_so, is_told};
+use kc_runs::{S0_SHARED, ended, ended_over, ends_so, is_told};
 use kc_tables::case_of;
 use std::alloc::{AllocError, Global};
 use std::test::Fail;

@@ -1,11 +1,9 @@
 //! `check` on changed certificates of S0 and S1: each condition with its place and event, as an independent model answers.
 
-use crate::edits::edited;
 use crate::files::{Files, bytes_of, second_of};
 use crate::first_sample::S1;
-use crate::small::S0;
 use kc_gen::Sample;
-use kc_runs::is_told;
+use kc_runs::{S0, edited, is_told};
 use kc_tables::case_of;
 use std::test::Fail;
 

@@ -1,11 +1,10 @@
 //! `explain` with a certificate, on changed certificates of S1: C1 to C17 with what is known where they fail, as an
 //! independent model answers.
 
-use crate::edits::edited;
 use crate::files::{Files, bytes_of};
 use crate::first_sample::S1;
 use kc_gen::Sample;
-use kc_runs::is_told;
+use kc_runs::{edited, is_told};
 use kc_tables::case_of;
 use std::test::Fail;
 

@@ -1,11 +1,9 @@
 //! `check` on certificates that are out of their form: each fault at its offset, in both versions. All are of S0's files, as
 //! an independent model answers.
 
-use crate::edits::edited;
 use crate::files::{Files, bytes_of};
-use crate::small::{MIX, S0, S0_SHARED};
 use kc_gen::Sample;
-use kc_runs::is_told;
+use kc_runs::{MIX, S0, S0_SHARED, edited, is_told};
 use kc_tables::case_of;
 use std::test::Fail;
 

@@ -6,8 +6,6 @@ mod check;
 #[cfg(test)]
 mod conditions;
 #[cfg(test)]
-mod edits;
-#[cfg(test)]
 mod explained;
 #[cfg(test)]
 mod files;
@@ -19,7 +17,5 @@ mod forms;
 mod searched;
 #[cfg(test)]
 mod second_sample;
-#[cfg(test)]
-mod small;
 #[cfg(test)]
 mod upgrade;

@@ -1,10 +1,9 @@
 //! `find` and `explain` with two files, on the samples and on variants of them, as an independent model of the certifier
 //! answers.
 
-use crate::edits::{edited, edited_text, replaced};
 use crate::files::Files;
 use kc_gen::{Sample, sample};
-use kc_runs::{Ending, is_told};
+use kc_runs::{Ending, edited, edited_text, is_told, replaced};
 use kc_tables::{Case, Unread, case_of};
 use sha2::{Digest, Sha256};
 use std::alloc::Global;

@@ -1,12 +1,10 @@
 //! Runs of `upgrade`. The bytes and digests are those of an independent model.
 
-use crate::edits::edited;
 use crate::files::{Files, bytes_of, second_of};
 use crate::first_sample::S1;
-use crate::small::{S0, S0_SHARED};
 use kc_gen::Sample;
 use kc_plain::NoMemory;
-use kc_runs::{Ending, Held, ended, is_told};
+use kc_runs::{Ending, Held, S0, S0_SHARED, edited, ended, is_told};
 use kc_tables::case_of;
 use sha2::{Digest, Sha256};
 use std::alloc::Global;

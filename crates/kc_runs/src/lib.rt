@@ -1,13 +1,17 @@
-//! Runs of the program over objects in memory, as tables of tests say them.
+//! Runs of the program over objects in memory, as tables of tests say them; edits of their files; small certificates.
 #![tactic(auto)]
 
+mod edits;
 mod packed;
+mod small;
 
+pub use edits::{edited, edited_text, replaced};
 use kc_io::{MemFiles, MemSink};
 use kc_plain::NoMemory;
 use kc_tables::{Case, Unread};
 use kc_top::{Words, run_in_memory};
 pub use packed::unpack;
+pub use small::{MIX, S0, S0_SHARED};
 use std::alloc::Global;
 
 /// A file by its name.
@@ -110,7 +114,7 @@ pub fn is_told(alloc: Global, case: &mut Case<'_>, end: &Ending) -> Result<bool,
 }
 
 /// The list of this number, or of none.
-fn list_of(alloc: Global, number: Option<u64>) -> Result<Vec<u64>, Unread> {
+pub fn list_of(alloc: Global, number: Option<u64>) -> Result<Vec<u64>, Unread> {
     match number {
         Some(number) => Ok(Vec::from_slice(alloc, &[number])?),
         None => Ok(Vec::new(alloc)),

@@ -1,4 +1,4 @@
-//! Certificates from outside, packed as `kc_runs::unpack` reads them: that of S0's table by hand in both versions, and one
+//! Certificates from outside, packed as `unpack` reads them: that of S0's table by hand in both versions, and one
 //! with each form of a value and a floor, which is certified for nothing.
 
 /// S0 in version 1, 8,542 bytes.
