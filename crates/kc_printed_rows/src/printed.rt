@@ -8,9 +8,9 @@ use kc_gen::{Sample, sample};
 use kc_image::{Image, read_image};
 use kc_io::MemSink;
 use kc_regions::Config;
-use kc_runs::{Ending, S0, S0_SHARED, edited, is_told, list_of, unpack};
+use kc_runs::{Ending, S0, S0_SHARED, Trial, each_holds, edited, is_told, list_of, unpack};
 use kc_state::Scratch;
-use kc_tables::{Case, Unread, case_of};
+use kc_tables::{Case, Unread};
 use kc_top::{Status, print_checked};
 use sha2::{Digest, Sha256};
 use std::alloc::Global;
@@ -117,23 +117,21 @@ fn table(alloc: Global) -> Result<Vec<u8>, Unread> {
     Ok(bytes)
 }
 
-/// Whether the table that a case tells ends as its other columns say.
-fn ends_so(alloc: Global, case: &mut Case<'_>) -> Result<bool, Unread> {
-    let cert = edited(alloc, &table(alloc)?, case.text())?;
-    let writes = list_of(alloc, case.number_or_none()?)?;
-    let end = ending(alloc, &cert, writes)?;
-    is_told(alloc, case, &end)
+/// S0's table with edits of its bytes.
+struct Tables;
+
+impl Trial for Tables {
+    fn holds(&self, alloc: Global, case: &mut Case<'_>) -> Result<bool, Unread> {
+        let cert = edited(alloc, &table(alloc)?, case.text())?;
+        let writes = list_of(alloc, case.number_or_none()?)?;
+        let end = ending(alloc, &cert, writes)?;
+        is_told(alloc, case, &end)
+    }
 }
 
 #[test]
 fn a_wrong_table_is_refused(rt: HostRuntime) -> Result<(), Fail> {
-    let alloc = rt.alloc();
-    for line in REFUSED.lines() {
-        if let Some(mut case) = case_of(line) {
-            assert!(rt; ends_so(alloc, &mut case)?, "{line}");
-        }
-    }
-    Ok(())
+    each_holds(rt.alloc(), &Tables, REFUSED)
 }
 
 #[test]

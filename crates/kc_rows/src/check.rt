@@ -1,10 +1,11 @@
 //! The words of the modes, the order in which the files are read, and their limits.
 
-use crate::files::{Files, bytes_of};
+use crate::files::{CHECK, Files, bytes_of};
 use kc_gen::Sample;
 use kc_io::MemFiles;
-use kc_runs::{S0_SHARED, ended, ended_over, ends_so, is_told};
-use kc_tables::case_of;
+use kc_plain::NoMemory;
+use kc_runs::{S0_SHARED, Trial, each_holds, ended, ended_over, ends_so, is_told};
+use kc_tables::{Case, Unread};
 use std::alloc::{AllocError, Global};
 use std::test::Fail;
 
@@ -85,18 +86,27 @@ upgrade / c | - | - | 5 | bad certificate 1 BadMagic at 0
 upgrade / l | - | 0 | 8 | -
 ";
 
+/// The files of S0 with its certificate.
+#[derive(Drop)]
+struct Whole {
+    files: Files,
+    cert: Vec<u8>,
+}
+
+impl Trial for Whole {
+    fn holds(&self, alloc: Global, case: &mut Case<'_>) -> Result<bool, Unread> {
+        ends_so(alloc, case, &self.files.with(&self.cert))
+    }
+}
+
 #[test]
 fn faults_of_reading_and_writing_have_their_place(rt: HostRuntime) -> Result<(), Fail> {
     let alloc = rt.alloc();
-    let files = Files::of(alloc, Sample::S0)?;
-    let cert = bytes_of(alloc, S0_SHARED)?;
-    let held = files.with(&cert);
-    for line in FAULTS.lines() {
-        if let Some(mut case) = case_of(line) {
-            assert!(rt; ends_so(alloc, &mut case, &held)?, "{line}");
-        }
-    }
-    Ok(())
+    let whole = Whole {
+        files: Files::of(alloc, Sample::S0)?,
+        cert: bytes_of(alloc, S0_SHARED)?,
+    };
+    each_holds(alloc, &whole, FAULTS)
 }
 
 #[test]
@@ -104,7 +114,8 @@ fn an_image_with_a_byte_more_has_another_digest(rt: HostRuntime) -> Result<(), F
     let alloc = rt.alloc();
     let mut files = Files::of(alloc, Sample::S0)?;
     files.image.push(0x90)?;
-    let end = files.checked(alloc, &bytes_of(alloc, S0_SHARED)?)?;
+    let cert = bytes_of(alloc, S0_SHARED)?;
+    let end = files.run(alloc, CHECK, &cert)?;
     assert!(rt; end.is(1, "refused C1\n"));
     Ok(())
 }
@@ -126,17 +137,22 @@ fn large_file(alloc: Global, name: &str, len: usize) -> Result<MemFiles, AllocEr
     Ok(MemFiles::new(names, bytes, Vec::new(alloc)))
 }
 
-#[test]
-fn a_file_over_its_limit_by_one_byte_is_too_large(rt: HostRuntime) -> Result<(), Fail> {
-    let alloc = rt.alloc();
-    for line in SIZES.lines() {
-        if let Some(mut case) = case_of(line) {
-            let words = case.text();
-            let name = case.text();
-            let mut files = large_file(alloc, name, case.number()? as usize)?;
-            let end = ended_over(alloc, words, &mut files, &[]).expect(&rt, "memory");
-            assert!(rt; is_told(alloc, &mut case, &end)?, "{line}");
+/// Runs over one file of a size.
+struct Sizes;
+
+impl Trial for Sizes {
+    fn holds(&self, alloc: Global, case: &mut Case<'_>) -> Result<bool, Unread> {
+        let words = case.text();
+        let name = case.text();
+        let mut files = large_file(alloc, name, case.number()? as usize)?;
+        match ended_over(alloc, words, &mut files, &[]) {
+            Ok(end) => is_told(alloc, case, &end),
+            Err(NoMemory) => Err(Unread::NoMemory),
         }
     }
-    Ok(())
+}
+
+#[test]
+fn a_file_over_its_limit_by_one_byte_is_too_large(rt: HostRuntime) -> Result<(), Fail> {
+    each_holds(rt.alloc(), &Sizes, SIZES)
 }

@@ -1,10 +1,9 @@
 //! `check` on changed certificates of S0 and S1: each condition with its place and event, as an independent model answers.
 
-use crate::files::{Files, bytes_of, second_of};
+use crate::files::{CHECK, Edits, TwoEdits, accepts, bytes_of, second_of};
 use crate::first_sample::S1;
 use kc_gen::Sample;
-use kc_runs::{S0, edited, is_told};
-use kc_tables::case_of;
+use kc_runs::{S0, each_holds};
 use std::test::Fail;
 
 /// The certificate; its edits; the exit code and the line.
@@ -68,31 +67,33 @@ fn the_samples_are_accepted(rt: HostRuntime) -> Result<(), Fail> {
     let alloc = rt.alloc();
     let first = bytes_of(alloc, S1)?;
     let second = second_of(alloc, &first)?;
-    let small = Files::of(alloc, Sample::S0)?.checked(alloc, &bytes_of(alloc, S0)?)?;
-    assert!(rt; small.is(0, "accepted contexts=13 nodes=13\n"));
-    let end = Files::of(alloc, Sample::S1)?.checked(alloc, &first)?;
-    assert!(rt; end.is(0, "accepted contexts=41 nodes=1385\n"));
-    let end = Files::of(alloc, Sample::S2)?.checked(alloc, &second)?;
-    assert!(rt; end.is(0, "accepted contexts=41 nodes=1232\n"));
+    let small = bytes_of(alloc, S0)?;
+    assert!(rt; accepts(alloc, Sample::S0, &small, "accepted contexts=13 nodes=13\n")?);
+    assert!(rt;
+        accepts(
+            alloc,
+            Sample::S1,
+            &first,
+            "accepted contexts=41 nodes=1385\n"
+        )?
+    );
+    assert!(rt;
+        accepts(
+            alloc,
+            Sample::S2,
+            &second,
+            "accepted contexts=41 nodes=1232\n"
+        )?
+    );
     Ok(())
 }
 
 #[test]
 fn each_condition_is_refused_at_its_place(rt: HostRuntime) -> Result<(), Fail> {
     let alloc = rt.alloc();
-    let (s0, s1) = (Files::of(alloc, Sample::S0)?, Files::of(alloc, Sample::S1)?);
-    let (small, first) = (bytes_of(alloc, S0)?, bytes_of(alloc, S1)?);
-    for line in REFUSALS.lines() {
-        if let Some(mut case) = case_of(line) {
-            let (files, whole) = if case.text() == "s0" {
-                (&s0, &small)
-            } else {
-                (&s1, &first)
-            };
-            let cert = edited(alloc, whole, case.text())?;
-            let end = files.checked(alloc, &cert)?;
-            assert!(rt; is_told(alloc, &mut case, &end)?, "{line}");
-        }
-    }
-    Ok(())
+    let both = TwoEdits {
+        small: Edits::of(alloc, Sample::S0, S0, CHECK)?,
+        other: Edits::of(alloc, Sample::S1, S1, CHECK)?,
+    };
+    each_holds(alloc, &both, REFUSALS)
 }

@@ -1,11 +1,10 @@
 //! `explain` with a certificate, on changed certificates of S1: C1 to C17 with what is known where they fail, as an
 //! independent model answers.
 
-use crate::files::{Files, bytes_of};
+use crate::files::Edits;
 use crate::first_sample::S1;
 use kc_gen::Sample;
-use kc_runs::{edited, is_told};
-use kc_tables::case_of;
+use kc_runs::each_holds;
 use std::test::Fail;
 
 /// The edits of the certificate; the exit code and the lines.
@@ -37,13 +36,6 @@ put 4e 00 | 1 | refused C17 context 0 / because the user state does not cover a 
 #[test]
 fn each_refusal_is_explained_by_what_is_known_at_its_place(rt: HostRuntime) -> Result<(), Fail> {
     let alloc = rt.alloc();
-    let (files, first) = (Files::of(alloc, Sample::S1)?, bytes_of(alloc, S1)?);
-    for line in EXPLAINED.lines() {
-        if let Some(mut case) = case_of(line) {
-            let cert = edited(alloc, &first, case.text())?;
-            let end = files.run(alloc, "explain / i / c / l", &cert)?;
-            assert!(rt; is_told(alloc, &mut case, &end)?, "{line}");
-        }
-    }
-    Ok(())
+    let edits = Edits::of(alloc, Sample::S1, S1, "explain / i / c / l")?;
+    each_holds(alloc, &edits, EXPLAINED)
 }

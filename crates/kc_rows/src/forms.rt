@@ -1,10 +1,9 @@
 //! `check` on certificates that are out of their form: each fault at its offset, in both versions. All are of S0's files, as
 //! an independent model answers.
 
-use crate::files::{Files, bytes_of};
+use crate::files::{CHECK, Edits, Files, TwoEdits};
 use kc_gen::Sample;
-use kc_runs::{MIX, S0, S0_SHARED, edited, is_told};
-use kc_tables::case_of;
+use kc_runs::{MIX, S0, S0_SHARED, each_holds};
 use std::test::Fail;
 
 /// The certificate in version 1; its edits; the exit code and the line.
@@ -130,39 +129,25 @@ put 1a8a 0a000000 | 5 | bad certificate 5 Order at 6798
 #[test]
 fn each_fault_of_version_1_has_its_offset(rt: HostRuntime) -> Result<(), Fail> {
     let alloc = rt.alloc();
-    let files = Files::of(alloc, Sample::S0)?;
-    let (small, mixed) = (bytes_of(alloc, S0)?, bytes_of(alloc, MIX)?);
-    for line in PLAIN.lines() {
-        if let Some(mut case) = case_of(line) {
-            let whole = if case.text() == "mix" { &mixed } else { &small };
-            let cert = edited(alloc, whole, case.text())?;
-            let end = files.checked(alloc, &cert)?;
-            assert!(rt; is_told(alloc, &mut case, &end)?, "{line}");
-        }
-    }
-    Ok(())
+    let both = TwoEdits {
+        small: Edits::of(alloc, Sample::S0, S0, CHECK)?,
+        other: Edits::of(alloc, Sample::S0, MIX, CHECK)?,
+    };
+    each_holds(alloc, &both, PLAIN)
 }
 
 #[test]
 fn each_fault_of_version_2_has_its_offset(rt: HostRuntime) -> Result<(), Fail> {
     let alloc = rt.alloc();
-    let files = Files::of(alloc, Sample::S0)?;
-    let whole = bytes_of(alloc, S0_SHARED)?;
-    for line in SHARED.lines() {
-        if let Some(mut case) = case_of(line) {
-            let cert = edited(alloc, &whole, case.text())?;
-            let end = files.checked(alloc, &cert)?;
-            assert!(rt; is_told(alloc, &mut case, &end)?, "{line}");
-        }
-    }
-    Ok(())
+    let edits = Edits::of(alloc, Sample::S0, S0_SHARED, CHECK)?;
+    each_holds(alloc, &edits, SHARED)
 }
 
 #[test]
 fn a_file_of_letters_has_another_magic(rt: HostRuntime) -> Result<(), Fail> {
     let alloc = rt.alloc();
     let files = Files::of(alloc, Sample::S0)?;
-    let end = files.checked(alloc, b"uukku")?;
+    let end = files.run(alloc, CHECK, b"uukku")?;
     assert!(rt; end.is(5, "bad certificate 1 BadMagic at 0\n"));
     Ok(())
 }

@@ -1,10 +1,10 @@
 //! `find` and `explain` with two files, on the samples and on variants of them, as an independent model of the certifier
 //! answers.
 
-use crate::files::Files;
+use crate::files::{Files, accepts};
 use kc_gen::{Sample, sample};
-use kc_runs::{Ending, edited, edited_text, is_told, replaced};
-use kc_tables::{Case, Unread, case_of};
+use kc_runs::{Trial, each_holds, edited, edited_text, ends_so, is_told, replaced};
+use kc_tables::{Case, Unread};
 use sha2::{Digest, Sha256};
 use std::alloc::Global;
 use std::test::Fail;
@@ -143,59 +143,66 @@ fn variant_of(alloc: Global, case: &mut Case<'_>) -> Result<Files, Unread> {
     })
 }
 
-/// Whether the run wrote bytes that have this SHA-256, and its exit code is 0.
-fn has_written(alloc: Global, end: &Ending, digest: &str) -> Result<bool, Fail> {
-    let found = hex::encode(alloc, Sha256::digest(&end.written))?;
-    Ok(end.code == 0 && found.as_str() == digest)
+const FIND: &str = "find / i / c";
+
+/// Variants for which a certificate is found.
+struct Found;
+
+impl Trial for Found {
+    fn holds(&self, alloc: Global, case: &mut Case<'_>) -> Result<bool, Unread> {
+        let files = variant_of(alloc, case)?;
+        let end = files.run(alloc, FIND, b"")?;
+        let digest = hex::encode(alloc, Sha256::digest(&end.written))?;
+        Ok(end.code == 0 && digest.as_str() == case.text())
+    }
+}
+
+/// Variants with what these words' run says of them.
+#[derive(Drop)]
+struct Variants {
+    words: &'static str,
+}
+
+impl Trial for Variants {
+    fn holds(&self, alloc: Global, case: &mut Case<'_>) -> Result<bool, Unread> {
+        let files = variant_of(alloc, case)?;
+        let end = files.run(alloc, self.words, b"")?;
+        is_told(alloc, case, &end)
+    }
 }
 
 #[test]
 fn what_is_found_is_the_same_byte_for_byte(rt: HostRuntime) -> Result<(), Fail> {
-    let alloc = rt.alloc();
-    for line in FOUND.lines() {
-        if let Some(mut case) = case_of(line) {
-            let files = variant_of(alloc, &mut case)?;
-            let end = files.run(alloc, "find / i / c", b"")?;
-            assert!(rt; has_written(alloc, &end, case.text())?, "{line}");
-        }
-    }
-    Ok(())
+    each_holds(rt.alloc(), &Found, FOUND)
 }
 
 #[test]
 fn check_accepts_what_was_found(rt: HostRuntime) -> Result<(), Fail> {
     let alloc = rt.alloc();
     let files = Files::of(alloc, Sample::S0)?;
-    let found = files.run(alloc, "find / i / c", b"")?;
-    let end = files.checked(alloc, &found.written)?;
-    assert!(rt; end.is(0, "accepted contexts=13 nodes=13\n"));
+    let found = files.run(alloc, FIND, b"")?;
+    assert!(rt;
+        accepts(
+            alloc,
+            Sample::S0,
+            &found.written,
+            "accepted contexts=13 nodes=13\n"
+        )?
+    );
     Ok(())
 }
 
 #[test]
 fn each_variant_is_refused_at_its_place(rt: HostRuntime) -> Result<(), Fail> {
-    let alloc = rt.alloc();
-    for line in REFUSED.lines() {
-        if let Some(mut case) = case_of(line) {
-            let files = variant_of(alloc, &mut case)?;
-            let end = files.run(alloc, "find / i / c", b"")?;
-            assert!(rt; is_told(alloc, &mut case, &end)?, "{line}");
-        }
-    }
-    Ok(())
+    each_holds(rt.alloc(), &Variants { words: FIND }, REFUSED)
 }
 
 #[test]
 fn a_refusal_of_what_was_found_is_explained(rt: HostRuntime) -> Result<(), Fail> {
-    let alloc = rt.alloc();
-    for line in EXPLAINED.lines() {
-        if let Some(mut case) = case_of(line) {
-            let files = variant_of(alloc, &mut case)?;
-            let end = files.run(alloc, "explain / i / c", b"")?;
-            assert!(rt; is_told(alloc, &mut case, &end)?, "{line}");
-        }
-    }
-    Ok(())
+    let variants = Variants {
+        words: "explain / i / c",
+    };
+    each_holds(rt.alloc(), &variants, EXPLAINED)
 }
 
 #[test]
@@ -205,26 +212,27 @@ fn a_table_past_the_limits_is_refused(rt: HostRuntime) -> Result<(), Fail> {
     // 4,000 NOPs before the jump, at each of the 13 contexts
     let nops = vec![in alloc; 0x90; 4_000]?;
     files.image = replaced(alloc, &files.image, 16, 0, &nops)?;
-    let end = files.run(alloc, "find / i / c", b"")?;
+    let end = files.run(alloc, FIND, b"")?;
     assert!(rt; end.is(1, "refused limits\n"));
     Ok(())
 }
 
-/// The seed and the size, and the line.
+/// The words, with no read and no write that fails; the exit code and the line.
 const MADE: &str = "\
-7 / 200 | gen seed=7 size=200 contexts=41 nodes=1587 digest=fc042c9d6b4e6fa6f2fc4d213e613bc3029d65adad312d4372baad0cf6ec7e2d
-007 / 0200 | gen seed=7 size=200 contexts=41 nodes=1587 digest=fc042c9d6b4e6fa6f2fc4d213e613bc3029d65adad312d4372baad0cf6ec7e2d
+gen / 7 / 200 | - | - | 0 | gen seed=7 size=200 contexts=41 nodes=1587 digest=fc042c9d6b4e6fa6f2fc4d213e613bc3029d65adad312d4372baad0cf6ec7e2d
+gen / 007 / 0200 | - | - | 0 | gen seed=7 size=200 contexts=41 nodes=1587 digest=fc042c9d6b4e6fa6f2fc4d213e613bc3029d65adad312d4372baad0cf6ec7e2d
 ";
+
+/// Inputs that are made.
+struct Made;
+
+impl Trial for Made {
+    fn holds(&self, alloc: Global, case: &mut Case<'_>) -> Result<bool, Unread> {
+        ends_so(alloc, case, &[])
+    }
+}
 
 #[test]
 fn a_made_input_has_the_same_certificate_each_time(rt: HostRuntime) -> Result<(), Fail> {
-    let alloc = rt.alloc();
-    for line in MADE.lines() {
-        let (numbers, summary) = line.split_once(" | ").ok_or("a column")?;
-        let words = format!(in alloc; "gen / {numbers}")?;
-        let summary = format!(in alloc; "{summary}\n")?;
-        let end = kc_runs::ended(alloc, words.as_str(), &[], &[], &[])?;
-        assert!(rt; end.is(0, summary.as_str()), "{line}");
-    }
-    Ok(())
+    each_holds(rt.alloc(), &Made, MADE)
 }

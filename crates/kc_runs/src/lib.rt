@@ -4,6 +4,7 @@
 mod edits;
 mod packed;
 mod small;
+mod trial;
 
 pub use edits::{edited, edited_text, replaced};
 use kc_io::{MemFiles, MemSink};
@@ -13,6 +14,7 @@ use kc_top::{Words, run_in_memory};
 pub use packed::unpack;
 pub use small::{MIX, S0, S0_SHARED};
 use std::alloc::Global;
+pub use trial::{Trial, each_holds};
 
 /// A file by its name.
 #[derive(Clone, Copy)]
