@@ -1,0 +1,4 @@
+pub mod CanonicalLemmas
+pub mod BaseLemmas
+pub mod MsrLemmas
+pub mod RowLemmas

@@ -1,0 +1,2 @@
+//! The rows of GS bases, of model-specific registers and of CR3.
+#![tactic(auto)]
