@@ -117,16 +117,44 @@ user_canonical : (writes : Bool) (n : ℕ) → IsUserGs writes n → is_canonica
 user_canonical false n h = low_canonical n h
 user_canonical true n h = h
 
-module _ (cfg : Description) (valid : IsValid cfg) (chain : List Activation)
-    (admitted : IsAdmitted cfg (oldest_of chain).saved) where
-  abbrev env : ValueEnv
-  env = env_of cfg chain
+module _ (cfg : Description) (chain : List Activation) where
+  -- whose base a value, or known bits, are
+  pub who_is : (v : AbsValue) (n : ℕ) → IsFor (env_of cfg chain) v n → IsGsOf cfg (user_gs_of chain) (who_of cfg v) n
+  who_is v n is =
+      who_stands (is_number cfg.cpu.kernel_gs (bits_single v.bits)) (is_symbol_user_gs v.sym)
+      (gs_env cfg (user_gs_of chain)) n
+      (λ e. single_is v (env_of cfg chain) n cfg.cpu.kernel_gs is.valid is.fits is.stands
+      (number_is_some cfg.cpu.kernel_gs (bits_single v.bits) e))
+      (λ e. names_user v.sym (env_of cfg chain) n e is.stands.symbol)
 
+  pub bits_who_is : (b : KnownBits) (n : ℕ) → Covers b n → IsGsOf cfg (user_gs_of chain) (who_of_bits cfg b) n
+  bits_who_is b n c =
+      who_stands (is_number cfg.cpu.kernel_gs (bits_single b)) false (gs_env cfg (user_gs_of chain)) n
+      (λ e. only_number b n cfg.cpu.kernel_gs c
+      (number_is_some cfg.cpu.kernel_gs (bits_single b) e))
+      (λ e. absurd (false≢true e))
+
+module _ (cfg : Description) (chain : List Activation) (admitted : IsAdmitted cfg (oldest_of chain).saved) where
   pub user_base_low : cfg.cpu.user_gs_writes ≡ false → user_gs_of chain < 2 ^ 47
   user_base_low = user_low cfg.cpu.user_gs_writes (user_gs_of chain) admitted.active
 
   pub user_base_canonical : is_canonical (user_gs_of chain) ≡ true
   user_base_canonical = user_canonical cfg.cpu.user_gs_writes (user_gs_of chain) admitted.active
+
+  -- a GS base that may be written is canonical
+  pub written_canonical : (v : AbsValue) (n : ℕ) → IsFor (env_of cfg chain) v n
+      → (known.is_user_gs v.sym || known.is_canonical v.bits) ≡ true → is_canonical n ≡ true
+  written_canonical v n is e = elim (or_cases (known.is_user_gs v.sym) (known.is_canonical v.bits) e) [
+    | inl user ↦
+        let same = names_user v.sym (env_of cfg chain) n (sym (same_test v.sym) ∙ user) is.stands.symbol in
+        subst (λ k. is_canonical k ≡ true) (sym same) user_base_canonical
+    | inr bits ↦ canonical_by_bits v.bits n is.fits is.stands.bits bits
+  ]
+
+module _ (cfg : Description) (valid : IsValid cfg) (chain : List Activation)
+    (admitted : IsAdmitted cfg (oldest_of chain).saved) where
+  abbrev env : ValueEnv
+  env = env_of cfg chain
 
   -- a number below 2^47 lies in no stack
   outside : (n : ℕ) (o : Option ℕ) → n < 2 ^ 47 → stack_of cfg.regions n ≡ o → bit_at (2 ^ 16) (place_bit o) ≡ 1
@@ -173,29 +201,3 @@ module _ (cfg : Description) (valid : IsValid cfg) (chain : List Activation)
   cr3_is map.Kernel n fits e = number_is n cfg.cpu.kernel_cr3 fits e
   cr3_is map.User n fits e = number_is n cfg.cpu.user_cr3 fits e
   cr3_is map.Any n fits e = anything n fits
-
-  -- whose base a value, or known bits, are
-  pub who_is : (v : AbsValue) (n : ℕ) → IsFor env v n → IsGsOf cfg (user_gs_of chain) (who_of cfg v) n
-  who_is v n is =
-      who_stands (is_number cfg.cpu.kernel_gs (bits_single v.bits)) (is_symbol_user_gs v.sym)
-      (gs_env cfg (user_gs_of chain)) n
-      (λ e. single_is v env n cfg.cpu.kernel_gs is.valid is.fits is.stands
-      (number_is_some cfg.cpu.kernel_gs (bits_single v.bits) e))
-      (λ e. names_user v.sym env n e is.stands.symbol)
-
-  pub bits_who_is : (b : KnownBits) (n : ℕ) → Covers b n → IsGsOf cfg (user_gs_of chain) (who_of_bits cfg b) n
-  bits_who_is b n c =
-      who_stands (is_number cfg.cpu.kernel_gs (bits_single b)) false (gs_env cfg (user_gs_of chain)) n
-      (λ e. only_number b n cfg.cpu.kernel_gs c
-      (number_is_some cfg.cpu.kernel_gs (bits_single b) e))
-      (λ e. absurd (false≢true e))
-
-  -- a GS base that may be written is canonical
-  pub written_canonical : (v : AbsValue) (n : ℕ) → IsFor env v n
-      → (known.is_user_gs v.sym || known.is_canonical v.bits) ≡ true → is_canonical n ≡ true
-  written_canonical v n is e = elim (or_cases (known.is_user_gs v.sym) (known.is_canonical v.bits) e) [
-    | inl user ↦
-        let same = names_user v.sym env n (sym (same_test v.sym) ∙ user) is.stands.symbol in
-        subst (λ k. is_canonical k ≡ true) (sym same) user_base_canonical
-    | inr bits ↦ canonical_by_bits v.bits n is.fits is.stands.bits bits
-  ]

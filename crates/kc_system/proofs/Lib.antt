@@ -2,3 +2,4 @@ pub mod CanonicalLemmas
 pub mod BaseLemmas
 pub mod MsrLemmas
 pub mod RowLemmas
+pub mod LawLemmas

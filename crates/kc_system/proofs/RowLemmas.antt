@@ -168,10 +168,10 @@ module _ (key : Key) (chain : List Activation) (s : AbsState) (m : Moment) (K : 
       let v = value_at s.regs r.0 in
       let n = slice_index m.cpu.regs r.0 in
       let is = register_is r.0 in
-      let canonical = written_canonical cfg K.context.valid chain admitted v n is allowed in
+      let canonical = written_canonical cfg chain admitted v n is allowed in
       covered (WriteGs r) (ap (λ (b : Bool). if◌then◌else◌ {A = Option ℕ} (not b) (Some 8) None) canonical)
       (with_bases (record { active = who_of cfg v; inactive = s.gs.inactive }) n m.cpu.kgs
-      (who_is cfg K.context.valid chain admitted v n is) K.row.spaces.gs.inactive is.fits K.typed.kgs)
+      (who_is cfg chain v n is) K.row.spaces.gs.inactive is.fits K.typed.kgs)
 
   -- ---- CR3
 
@@ -251,7 +251,7 @@ module _ (key : Key) (chain : List Activation) (s : AbsState) (m : Moment) (K : 
       → known.edx_eax before.cpu ≡ b → Covers b v
       → FallsThrough key chain s m (known.falls before (known.with_msr before o) None) (with_msr m n v)
   msr_written o n b v only is same c =
-      let whose = bits_who_is cfg K.context.valid chain admitted (known.edx_eax before.cpu) v
+      let whose = bits_who_is cfg chain (known.edx_eax before.cpu) v
       (subst (λ z. Covers z v) (sym same) c) in
       by_number (λ o n. FallsThrough key chain s m (known.falls before (known.with_msr before o) None) (with_msr m n v)) o
       n only is
