@@ -1,9 +1,9 @@
 -- GS bases and CR3 as values and back: what the analysis knows of a base or of CR3 stands for the register, and whose
 -- base, or which CR3, a value is said to be is right. The base of the user is that of the oldest activation, whose
 -- interrupted processor was admitted.
-use Rattle.std.proofs.Common.{◌≡◌, ℕ, ◌-◌, ◌%◌, ◌^◌, ◌<◌, ◌==◌, ◌||◌, ◌&&◌, Bool, true, false, not, if◌then◌else◌, List, All, Option, Some, None, inl, inr, refl, sym, ap, ◌∙◌, subst, arith}
+use Rattle.std.proofs.Common.{◌≡◌, ℕ, ◌^◌, ◌<◌, ◌==◌, ◌||◌, Bool, true, false, not, if◌then◌else◌, List, Option, Some, None, inl, inr, refl, sym, ap, ◌∙◌, subst, arith}
 use Rattle.std.specs.Int.{bit_at}
-use Rattle.std.proofs.lemmas.Bool.{false≢true, cases_lt, and_parts, eqb-true, eq-eqb, or_cases}
+use Rattle.std.proofs.lemmas.Bool.{false≢true, eqb-true, or_cases}
 use Rattle.kc_bits.specs.KnownBits.{KnownBits}
 use Rattle.kc_bits.specs.Bits.{bits_single}
 use Rattle.kc_regions.specs.Description.{Description}
@@ -37,7 +37,7 @@ use Rattle.kc_describes.proofs.ValidLemmas.{top_valid, number_valid, none_valid}
 use Rattle.kc_describes.proofs.ValueLemmas.{single_is, number_stands, top_stands, nothing_stands, anywhere, lies_at}
 use Rattle.kc_arith.specs.Covers.{Covers}
 use Rattle.kc_arith.proofs.ArithmeticLemmas.{single_is as only_number}
-use Rattle.kc_system.proofs.CanonicalLemmas.{upper_mask, canonical_by_bits, low_canonical, low_stands, low_valid}
+use Rattle.kc_system.proofs.CanonicalLemmas.{canonical_by_bits, low_canonical, low_stands, low_valid}
 
 -- ---- whose base
 

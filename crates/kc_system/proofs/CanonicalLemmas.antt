@@ -1,8 +1,8 @@
 -- What is canonical: bits 47 to 63 of a word that are known alike make its upper part all zeros or all ones. And the bits
 -- that are known of a user's GS base. By single bits.
-use Rattle.std.proofs.Common.{◌≡◌, ℕ, ◌+◌, ◌-◌, ◌*◌, ◌/◌, ◌%◌, ◌^◌, ◌<◌, ◌≤◌, ◌==◌, ◌||◌, Bool, true, false, bit_and, refl, sym, ap, ◌∙◌, inl, inr, arith}
+use Rattle.std.proofs.Common.{◌≡◌, ℕ, ◌+◌, ◌-◌, ◌/◌, ◌%◌, ◌^◌, ◌<◌, ◌==◌, true, bit_and, refl, sym, ap, ◌∙◌, inl, inr, arith}
 use Rattle.std.specs.Int.{bit_at}
-use Rattle.std.proofs.lemmas.Bool.{cases_lt, cases_cond, eqb-true, lt-ltb, le-leb, or_cases, or_left, or_right}
+use Rattle.std.proofs.lemmas.Bool.{cases_lt, eqb-true, lt-ltb, le-leb, or_cases, or_left, or_right}
 use Rattle.std.proofs.lemmas.Nat.{shr-shr}
 use Rattle.std.proofs.lemmas.Nat.Bits.{bit_at-lt, bit_at-zero, bit_at_and, bit_at_ones, bit_at_above, bit_at_cat_low, bit_at_cat_high, same_from_bits_below}
 use Rattle.kc_bits.specs.KnownBits.{KnownBits}

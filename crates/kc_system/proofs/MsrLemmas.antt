@@ -1,8 +1,7 @@
 -- Model-specific registers: the number in ECX is the known one where the condition on the instruction holds, what is
 -- known of EDX:EAX covers it, and what is known of a register covers what it holds.
-use Rattle.std.proofs.Common.{◌≡◌, ℕ, ◌+◌, ◌-◌, ◌*◌, ◌/◌, ◌%◌, ◌^◌, ◌<◌, ◌==◌, ◌||◌, ◌&&◌, ◌⊎◌, Bool, true, false, cond, not, if◌then◌else◌, Option, Some, None, inl, inr, refl, sym, ap, ◌∙◌, subst, arith}
-use Rattle.std.specs.Int.{bit_at}
-use Rattle.std.proofs.lemmas.Bool.{false≢true, and_parts, or_cases, eqb-true, eq-eqb}
+use Rattle.std.proofs.Common.{◌≡◌, ℕ, ◌%◌, ◌^◌, ◌<◌, ◌||◌, ◌&&◌, ◌⊎◌, Bool, true, false, cond, if◌then◌else◌, Option, Some, inl, inr, refl, sym, subst, arith}
+use Rattle.std.proofs.lemmas.Bool.{false≢true, and_parts, or_cases, eq-eqb}
 use Rattle.std.proofs.lemmas.Nat.Bits.{bit_at-zero}
 use Rattle.kc_words.specs.Flags.{bits_of, cut}
 use Rattle.kc_words.specs.declared.width.Width.TheVariants.{Long}
@@ -13,16 +12,12 @@ use Rattle.kc_rules.proofs.TestLemmas.{chosen}
 use Rattle.kc_space.specs.Latches.{TriStands}
 use Rattle.kc_space.specs.declared.tri.Tri.{Tri}
 use Rattle.kc_space.specs.declared.tri.Tri.TheVariants.{No, Yes, Any}
-use Rattle.kc_value.specs.AbsValue.{AbsValue}
-use Rattle.kc_value.specs.declared.env.ValueEnv.{ValueEnv}
 use Rattle.kc_state.specs.AbsEffect.{is_number, gs_base, kernel_gs_base, mcg_status, mcg_bits}
 use Rattle.kc_state.specs.Conditions.{is_base_number, is_canonical as is_known_canonical}
-use Rattle.kc_exec.specs.Breaks.{is_canonical, is_known_msr, takes}
-use Rattle.kc_describes.proofs.OperandLemmas.{IsFor}
-use Rattle.kc_arith.specs.Covers.{Covers, joined}
+use Rattle.kc_exec.specs.Breaks.{is_known_msr, takes}
+use Rattle.kc_arith.specs.Covers.{Covers}
 use Rattle.kc_arith.proofs.ArithmeticLemmas.{single_is}
 use Rattle.kc_arith.proofs.BitLemmas.{all_covers}
-use Rattle.kc_arith.proofs.HalfLemmas.{joined_covers}
 use Rattle.kc_arith.proofs.WidthLemmas.{cut_stands}
 use Rattle.kc_system.proofs.BaseLemmas.{number_is_some}
 use Rattle.kc_system.proofs.CanonicalLemmas.{canonical_by_bits}
@@ -82,8 +77,7 @@ pub written_number : (o : Option ℕ) (b : KnownBits)
     → (if is_base_number o then is_known_canonical b else is_number mcg_status o && is_number 0 (bits_single b)) ≡ true
     → IsWritten o b
 written_number o b e =
-    elim (chosen (is_base_number o) (is_known_canonical b) (is_number mcg_status o && is_number 0 (bits_single b)) true e)
-    [
+    elim (chosen (is_base_number o) (is_known_canonical b) (is_number mcg_status o && is_number 0 (bits_single b)) true e) [
       | inl h ↦ inl (base_number o h.0, h.1)
       | inr h ↦
           let p = and_parts (is_number mcg_status o) (is_number 0 (bits_single b)) h.1 in

@@ -1,14 +1,13 @@
 -- The rows of SWAPGS, of reads and writes of the GS base, of RDMSR and WRMSR, and of CR3. Each changes registers, bases,
 -- CR3 or MCIP and nothing else of the processor, so one lemma makes the description of all of them from the parts that
 -- changed; the premises of each instruction are the conditions on it.
-use Rattle.std.proofs.Common.{◌≡◌, ℕ, ◌+◌, ◌-◌, ◌*◌, ◌/◌, ◌%◌, ◌^◌, ◌<◌, ◌==◌, ◌||◌, ◌&&◌, Bool, true, false, cond, not, if◌then◌else◌, List, [], All, Option, Some, None, slice_index, set, inl, inr, refl, sym, ap, ◌∙◌, subst, arith}
+use Rattle.std.proofs.Common.{◌≡◌, ℕ, ◌/◌, ◌%◌, ◌^◌, Bool, true, false, not, if◌then◌else◌, List, [], Option, Some, None, slice_index, set, refl, sym, ap, subst, arith}
 use Rattle.kc_bits.specs.KnownBits.{KnownBits}
-use Rattle.kc_bits.specs.Bits.{StandsFor, bits_cut, bits_single}
+use Rattle.kc_bits.specs.Bits.{bits_cut, bits_single}
 use Rattle.kc_insn.specs.declared.insn.Insn.{Insn}
 use Rattle.kc_insn.specs.declared.insn.Insn.TheVariants.{Swapgs, Rdmsr, Wrmsr, ReadCr3, WriteCr3, ReadGs, WriteGs}
 use Rattle.kc_insn.specs.declared.insn.Reg.{Reg}
 use Rattle.kc_regions.specs.Description.{Description}
-use Rattle.kc_regions.specs.Valid.{IsValid}
 use Rattle.kc_space.specs.Latches.{TriStands}
 use Rattle.kc_space.specs.declared.gs.GsPair.{GsPair}
 use Rattle.kc_space.specs.declared.latches.Latches.{Latches}
@@ -16,13 +15,12 @@ use Rattle.kc_space.specs.declared.map.MapState.{MapState}
 use Rattle.kc_space.specs.declared.tri.Tri.TheVariants.{No}
 use Rattle.kc_cpu.specs.declared.cpu.Latch.{Latch}
 use Rattle.kc_exec.specs.Admitted.{IsAdmitted}
-use Rattle.kc_exec.specs.Breaks.{break_of, judged, effect, is_known_msr, takes}
+use Rattle.kc_exec.specs.Breaks.{break_of, judged, effect}
 use Rattle.kc_exec.specs.Change.{falls}
 use Rattle.kc_exec.specs.Effect.{row, msr, msr_number, edx_eax, with_msr, stored_cr3}
 use Rattle.kc_exec.specs.Moment.{Moment}
 use Rattle.kc_exec.specs.declared.state.Activation.{Activation}
 use Rattle.kc_value.specs.AbsValue.{AbsValue}
-use Rattle.kc_value.specs.Value.{Represents}
 use Rattle.kc_value.specs.declared.env.ValueEnv.{ValueEnv}
 use Rattle.kc_state.specs.AbsEffect as known
 use Rattle.kc_state.specs.AbsEffect.{abs_row, upper, gs_value, cr3_value, map_of, who_of, who_of_bits}
@@ -36,14 +34,14 @@ use Rattle.kc_describes.specs.Spaces.{IsGsOf, IsCr3Of}
 use Rattle.kc_describes.specs.Widths.{IsWord}
 use Rattle.kc_describes.proofs.OperandLemmas.{AreRegisters, IsFor, word_at, value_at_valid, register_stands, set_register}
 use Rattle.kc_describes.proofs.ValidLemmas.{bits_valid}
-use Rattle.kc_describes.proofs.ValueLemmas.{bits_stand, single_is}
+use Rattle.kc_describes.proofs.ValueLemmas.{bits_stand}
 use Rattle.kc_arith.specs.Covers.{Covers}
 use Rattle.kc_arith.proofs.HalfLemmas.{upper_covers, joined_covers}
 use Rattle.kc_arith.proofs.WidthLemmas.{cut_stands}
 use Rattle.kc_words.specs.declared.width.Width.TheVariants.{Long}
 use Rattle.kc_system.specs.System.{known_moment, IsKernelMoment, FallsThrough, IsCovered}
 use Rattle.kc_system.proofs.BaseLemmas.{gs_is, cr3_is, who_is, bits_who_is, written_canonical, written_map, written_cr3}
-use Rattle.kc_system.proofs.MsrLemmas.{IsMsr, IsWritten, number_in, by_number, read_number, known_number, written_number, written_is, number_takes, mcip_covers}
+use Rattle.kc_system.proofs.MsrLemmas.{IsMsr, number_in, by_number, read_number, known_number, written_number, written_is, number_takes, mcip_covers}
 
 module _ (key : Key) (chain : List Activation) (s : AbsState) (m : Moment) (K : IsKernelMoment key chain s m) where
   abbrev cfg : Description

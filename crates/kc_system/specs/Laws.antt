@@ -1,11 +1,8 @@
 -- What the definitions of the analysis mean for GS bases, CR3 and model-specific registers, each a law: values that are
 -- known of them, whose base or which CR3 a value is, what may be written, and the rows. This project's own.
 use Rattle.std.specs.Prelude.{◌≡◌, ℕ, ◌^◌, ◌<◌, List, Bool, true, false, cond, not, ◌||◌, ◌==◌}
-use Rattle.kc_bits.specs.KnownBits.{KnownBits}
 use Rattle.kc_bits.specs.Bits.{bits_single}
 use Rattle.kc_insn.specs.declared.insn.Insn.{Insn}
-use Rattle.kc_insn.specs.declared.insn.Insn.TheVariants.{Swapgs, Rdmsr, Wrmsr, ReadCr3, WriteCr3, ReadGs, WriteGs}
-use Rattle.kc_insn.specs.declared.insn.Reg.{Reg}
 use Rattle.kc_regions.specs.Description.{Description}
 use Rattle.kc_space.specs.Latches.{TriStands}
 use Rattle.kc_space.specs.Spaces.{is_same_map}
