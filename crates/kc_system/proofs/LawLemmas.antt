@@ -1,15 +1,19 @@
 -- The laws as they are stated, by the lemmas on bases, model-specific registers and rows.
-use Rattle.std.proofs.Common.{ℕ, List}
+use Rattle.std.proofs.Common.{ℕ, List, ap}
 use Rattle.kc_insn.specs.declared.insn.Insn.TheVariants.{Swapgs, Rdmsr, Wrmsr, ReadCr3, WriteCr3, ReadGs, WriteGs}
 use Rattle.kc_insn.specs.declared.insn.Reg.{Reg}
 use Rattle.kc_regions.specs.Description.{Description}
 use Rattle.kc_exec.specs.declared.state.Activation.{Activation}
+use Rattle.kc_exec.specs.Breaks.{judged, effect}
+use Rattle.kc_exec.specs.Effect.{row}
 use Rattle.kc_value.specs.AbsValue.{AbsValue}
 use Rattle.kc_describes.specs.Chain.{env_of}
 use Rattle.kc_describes.specs.Laws.{IsWordOf}
 use Rattle.kc_describes.proofs.OperandLemmas.{IsFor}
 use Rattle.kc_system.specs.Laws.{UserBaseIsCanonical, BaseValueStands, WhoseBaseIsRight, WrittenBaseIsCanonical, Cr3ValueStands, WrittenMapStands, WrittenCr3IsKnown, WrittenBitsCover, StatusBitsCover, CoversAlways, CoversKnownCr3, CoversAllowed}
+use Rattle.kc_system.specs.Forbidden.{BreaksNothing}
 use Rattle.kc_system.proofs.BaseLemmas.{user_base_low, user_base_canonical, gs_is, who_is, written_canonical, cr3_is, written_map, written_cr3}
+use Rattle.kc_system.proofs.BreakLemmas.{unbroken}
 use Rattle.kc_system.proofs.MsrLemmas.{mcip_covers}
 use Rattle.kc_system.proofs.RowLemmas.{swapgs_row, read_gs_row, write_gs_row, read_cr3_row, write_cr3_row, rdmsr_row, wrmsr_row, written_covers}
 
@@ -70,3 +74,8 @@ rdmsr key chain s m K e = rdmsr_row key chain s m K e
 
 pub wrmsr : CoversAllowed Wrmsr
 wrmsr key chain s m K e = wrmsr_row key chain s m K e
+
+pub breaks_nothing : BreaksNothing
+unfolding effect
+breaks_nothing key chain s m insn K pass unguarded =
+    let free = unbroken key chain s m K insn pass unguarded in (free, ap (λ b. judged b (row m insn)) free)

@@ -53,10 +53,10 @@ module _ (key : Key) (chain : List Activation) (s : AbsState) (m : Moment) (K : 
   abbrev before : AbsMoment
   before = known_moment key s m
 
-  admitted : IsAdmitted cfg (oldest_of chain).saved
+  pub admitted : IsAdmitted cfg (oldest_of chain).saved
   admitted = K.context.fits.admitted
 
-  registers : AreRegisters env s.regs m.cpu.regs
+  pub registers : AreRegisters env s.regs m.cpu.regs
   registers = record {
     count = K.state.reg_count;
     valid = K.state.regs;
@@ -65,7 +65,7 @@ module _ (key : Key) (chain : List Activation) (s : AbsState) (m : Moment) (K : 
     stand = K.row.file.each;
   }
 
-  register_is : (r : ℕ) → IsFor env (value_at s.regs r) (slice_index m.cpu.regs r)
+  pub register_is : (r : ℕ) → IsFor env (value_at s.regs r) (slice_index m.cpu.regs r)
   register_is r = record {
     valid = value_at_valid s.regs r K.state.regs;
     fits = word_at m.cpu.regs r K.typed.regs.1;
@@ -196,7 +196,7 @@ module _ (key : Key) (chain : List Activation) (s : AbsState) (m : Moment) (K : 
   -- ---- model-specific registers
 
   -- the known number in ECX is the number there
-  single : (k : ℕ) → known.msr_number before.cpu ≡ Some k → msr_number m.cpu ≡ k
+  pub single : (k : ℕ) → known.msr_number before.cpu ≡ Some k → msr_number m.cpu ≡ k
   single k e = number_in (value_at s.regs 1).bits (slice_index m.cpu.regs 1) k (register_is 1).stands.bits e
 
   bits_is : (b : KnownBits) (n : ℕ) → Covers b n → IsFor env (bits_value cfg b) n

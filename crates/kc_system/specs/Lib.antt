@@ -1,2 +1,3 @@
 pub mod System
 pub mod Laws
+pub mod Forbidden
