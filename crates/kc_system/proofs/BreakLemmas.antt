@@ -1,8 +1,8 @@
--- Where C7, C9, C10 and C11 hold and no byte of the accesses lies in a guard, an instruction breaks none of B6 to B8. CR3
--- is loaded with one of its two values; a handler is called with the kernel's GS base and CR3, and RSP after the push in
--- a stack; and what is forbidden isn't allowed.
-use Rattle.std.proofs.Common.{◌≡◌, ℕ, ◌+◌, ◌%◌, ◌^◌, ◌<◌, ◌==◌, ◌||◌, ◌&&◌, Bool, true, false, not, if◌then◌else◌, is_some, List, [], ◌∷◌, length, All, Option, Some, None, slice_get, slice_index, pos, neg_ℤ, inl, inr, refl, sym, ap, ◌∙◌, subst, arith}
-use Rattle.std.specs.Prelude.{position, nat_eq}
+-- Where C7, C9, C10 and C11 hold and no byte of the accesses lies in a guard, an instruction breaks none of B6 to B8:
+-- CR3 is loaded with one of its two values; a handler is called with the kernel's GS base and CR3, and with RSP after
+-- the push in a stack; and what is forbidden isn't allowed.
+use Rattle.std.proofs.Common.{◌≡◌, ℕ, ◌^◌, ◌<◌, ◌&&◌, Bool, true, false, not, if◌then◌else◌, is_some, List, [], ◌∷◌, All, Option, Some, None, slice_get, slice_index, pos, neg_ℤ, inl, inr, refl, sym, ap, ◌∙◌, subst, arith}
+use Rattle.std.specs.Prelude.{nat_eq}
 use Rattle.std.proofs.lemmas.Bool.{false≢true, and_parts, and_from, eq-eqb}
 use Rattle.std.proofs.lemmas.List.Quantifiers.{position-Some}
 use Rattle.std.proofs.lemmas.Option.{slice_get_cases}
@@ -30,13 +30,11 @@ use Rattle.kc_exec.specs.Moment.{Moment}
 use Rattle.kc_exec.specs.declared.access.Access.{Access}
 use Rattle.kc_exec.specs.declared.state.Activation.{Activation}
 use Rattle.kc_value.specs.AbsValue.{AbsValue}
-use Rattle.kc_value.specs.Value.{Represents}
-use Rattle.kc_value.specs.declared.env.ValueEnv.{ValueEnv}
 use Rattle.kc_state.specs.Access.{may, clear}
 use Rattle.kc_state.specs.AbsEffect as known
 use Rattle.kc_state.specs.AbsEffect.{abs_row, on_stack, pushed}
 use Rattle.kc_state.specs.Calls.{called_handler, frame_of}
-use Rattle.kc_state.specs.Conditions.{accesses_of, is_permitted, may_at, loads_known_cr3, stack_region, has_room_in, has_room, calls_well_at, calls_handler, calls_well, is_allowed}
+use Rattle.kc_state.specs.Conditions.{may_at, loads_known_cr3, stack_region, has_room_in, has_room, calls_well_at, calls_handler, is_allowed}
 use Rattle.kc_state.specs.Location.{location_of}
 use Rattle.kc_state.specs.Operand.{AbsMoment}
 use Rattle.kc_state.specs.Shift.{shifted}
@@ -48,7 +46,6 @@ use Rattle.kc_describes.specs.Chain.{newest_of, user_gs_of, env_of}
 use Rattle.kc_describes.specs.Row.{value_at}
 use Rattle.kc_describes.specs.Spaces.{gs_env, cr3_env}
 use Rattle.kc_describes.proofs.LocationLemmas.{located}
-use Rattle.kc_describes.proofs.OperandLemmas.{IsFor}
 use Rattle.kc_describes.proofs.ShiftLemmas.{push_move, shift_stands, push_stack}
 use Rattle.kc_describes.proofs.ValidLemmas.{shifted_valid}
 use Rattle.kc_system.specs.System.{known_moment, IsKernelMoment}
