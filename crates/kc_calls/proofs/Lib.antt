@@ -1,0 +1,3 @@
+pub mod InsideLemmas
+pub mod LeaveLemmas
+pub mod LawLemmas

@@ -1,0 +1,7 @@
+//! Laws of C handlers, which kernel code calls: what the analysis says of the machine while one runs, it
+//! says after the handler's turns too. Nothing here runs.
+#![tactic(auto)]
+
+mod leave;
+
+pub use leave::left;
