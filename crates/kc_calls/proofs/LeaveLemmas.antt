@@ -73,8 +73,7 @@ if_known b Keep before n i known keeps =
       | inl e ↦
           let at : bit_at n i ≡ bit_at before i =
           subst (λ j. bit_at n j ≡ bit_at before j) (sym e) keeps in
-          let was = known_at b before i known in
-          (
+          let was = known_at b before i known in (
             omega (arith, zeros, at, was.0, bit_at-lt (bit_and b.zeros 0x200) i),
             omega (arith, ones, at, was.1),
           )
@@ -141,8 +140,7 @@ module _ (b : KnownBits) (a : AfterIf) (before n : ℕ) (known : StandsFor b bef
 
   flags_at : (i : ℕ) → KnownAt (left_flags b a) n i
   flags_at i =
-      let about = if_known b a before n i known keeps in
-      (
+      let about = if_known b a before n i known keeps in (
         omega (
           arith,
           bit_at_or (bit_or (flipped model_flags) 0x400) (left_if b a).zeros i,
@@ -190,9 +188,9 @@ quiet_turn cfg found S call l b (inr (inr (inr (inl fourth)))) = elim fourth.1.1
 quiet_turn cfg found S call l b (inr (inr (inr (inr both)))) = elim both.1 [
   | inl fifth ↦ not_elsewhere cfg found S l _ fifth.1
   | inr later ↦ elim later [
-      | inl sixth ↦ not_elsewhere cfg found S l _ sixth
-      | inr eighth ↦ not_elsewhere cfg found S l _ eighth.1
-    ]
+    | inl sixth ↦ not_elsewhere cfg found S l _ sixth
+    | inr eighth ↦ not_elsewhere cfg found S l _ eighth.1
+  ]
 ]
 
 -- ---- the state after
