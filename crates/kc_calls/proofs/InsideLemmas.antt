@@ -1,6 +1,6 @@
 -- What is known while a handler runs, taken out of a description; and a description of a state is one of each state
 -- that is like it.
-use Rattle.std.proofs.Common.{◌≡◌, ℕ, ◌+◌, true, All, Option, Some, None, IsSomeAnd, slice_get, refl, sym, ◌∙◌, subst}
+use Rattle.std.proofs.Common.{◌≡◌, ℕ, ◌+◌, All, Option, Some, None, IsSomeAnd, slice_get, refl, sym, ◌∙◌, subst}
 use Rattle.kc_bits.specs.Bits.{word}
 use Rattle.kc_insn.specs.declared.insn.Insn.{Insn}
 use Rattle.kc_insn.specs.declared.insn.Insn.TheVariants.{Call as CallInsn}

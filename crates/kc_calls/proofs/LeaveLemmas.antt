@@ -1,5 +1,6 @@
--- A handler's end. It touches no memory, so it breaks nothing; RBX, RBP and R12 to R15 are as at the call, RSP lies above
--- the return address, and of the other registers nothing is known. RFLAGS are what the contract says, place by place.
+-- A handler's end. It touches no memory, so it breaks nothing; RBX, RBP and R12 to R15 are as at the call, RSP lies
+-- above the return address, and of the other registers nothing is known. RFLAGS are what the contract says, place by
+-- place.
 use Rattle.std.proofs.Common.{◌≡◌, ℕ, ◌+◌, ◌⊎◌, ◌≤◌, ◌^◌, ◌<◌, false, cond, replicate, set, List, Option, Some, None, IsSomeAnd, min, bit_and, bit_or, pos, inl, inr, slice_index, refl, sym, ap, ◌∙◌, subst, arith}
 use Rattle.std.proofs.lemmas.List.{get_or-replicate}
 use Rattle.std.proofs.lemmas.List.Elements.{All-replicate}
@@ -7,7 +8,7 @@ use Rattle.std.specs.Int.{bit_at}
 use Rattle.std.proofs.lemmas.Bool.{cases_lt, cases_eq, false≢true}
 use Rattle.std.proofs.lemmas.Int.{ints}
 use Rattle.std.proofs.lemmas.Nat.{and_le_r, or_lt}
-use Rattle.std.proofs.lemmas.Nat.Bits.{bit_at_and, bit_at_or, bit_at-lt, bit_at-zero, bit_at_above, bit_at-pow_same, bit_at-pow_other}
+use Rattle.std.proofs.lemmas.Nat.Bits.{bit_at_and, bit_at_or, bit_at-lt, bit_at-zero, bit_at_above, bit_at-pow_other}
 use Rattle.kc_bits.specs.KnownBits.{KnownBits}
 use Rattle.kc_bits.specs.Bits.{IsValid as AreBitsValid, StandsFor, flipped, word}
 use Rattle.kc_bits.proofs.Masks.{bit_at-flipped}
@@ -20,13 +21,12 @@ use Rattle.kc_regions.specs.declared.entry.AfterIf.TheVariants.{Keep, On, Off, A
 use Rattle.kc_regions.specs.declared.entry.Handler.{Handler}
 use Rattle.kc_cpu.specs.declared.cpu.Call.{Call}
 use Rattle.kc_cpu.specs.declared.cpu.Mode.{Mode}
-use Rattle.kc_cpu.specs.declared.cpu.Mode.TheVariants.{Inside}
 use Rattle.kc_exec.specs.Admitted.{model_flags}
 use Rattle.kc_exec.specs.declared.state.State.{State}
 use Rattle.kc_events.specs.declared.turn.LeaveSet.{LeaveSet}
 use Rattle.kc_events.specs.declared.turn.Turn.TheVariants.{Leave}
 use Rattle.kc_events.specs.Allowed.{AreModelFlags, InHandler, KeepsIf, MayLeave, IsAllowed}
-use Rattle.kc_events.specs.Attempt.{Attempt, idle, inside, attempt}
+use Rattle.kc_events.specs.Attempt.{Attempt, idle, inside}
 use Rattle.kc_exec.specs.Execution.{stops}
 use Rattle.kc_exec.specs.declared.executed.ExecEnd.{ExecEnd}
 use Rattle.kc_events.specs.Breaks.{EndsWith, BreaksWith}
@@ -37,8 +37,6 @@ use Rattle.kc_value.specs.Value.{IsValidValue, Represents, value_top}
 use Rattle.kc_value.specs.AbsValue.{AbsValue}
 use Rattle.kc_value.specs.declared.env.ValueEnv.{ValueEnv}
 use Rattle.kc_state.specs.Calls.{left_if, left_flags, left_registers, left, left_of, called_handler, after_handler}
-use Rattle.kc_state.specs.Operand.{bits_value}
-use Rattle.kc_state.specs.Shift.{shifted}
 use Rattle.kc_state.specs.State.{IsState}
 use Rattle.kc_state.specs.declared.key.Key.{Key}
 use Rattle.kc_state.specs.declared.state.AbsState.{AbsState}
