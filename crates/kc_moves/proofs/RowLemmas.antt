@@ -1,12 +1,10 @@
 -- The rows of moves. Each changes registers and makes one store at most, so one lemma makes what is after it from the
 -- registers and the store; operands and addresses are known on both sides by one lemma each.
-use Rattle.std.proofs.Common.{◌≡◌, ℕ, ◌+◌, ◌/◌, ◌%◌, ◌^◌, ◌<◌, List, [], Option, Some, None, slice_index, set, refl, sym, ap, subst, arith}
-use Rattle.std.specs.Prelude.{FitsSigned}
-use Rattle.std.specs.Int.{w32}
+use Rattle.std.proofs.Common.{ℕ, ◌^◌, ◌<◌, List, [], Option, None, set, refl, subst}
 use Rattle.kc_words.specs.Flags.{bits_of, cut}
 use Rattle.kc_words.specs.declared.width.Width.{Width}
 use Rattle.kc_insn.specs.Fields.{source_of}
-use Rattle.kc_insn.specs.declared.insn.Insn.TheVariants.{Nop, Endbr64, Lfence, Mov, Lea, Xchg, Push, Pop}
+use Rattle.kc_insn.specs.declared.insn.Insn.TheVariants.{Nop, Endbr64, Lfence, Mov, Lea, Xchg}
 use Rattle.kc_insn.specs.declared.insn.Mem.{Mem}
 use Rattle.kc_insn.specs.declared.insn.Place.{Place}
 use Rattle.kc_insn.specs.declared.insn.Place.TheVariants as place
@@ -25,7 +23,6 @@ use Rattle.kc_value.specs.AbsValue.{AbsValue}
 use Rattle.kc_value.specs.declared.env.ValueEnv.{ValueEnv}
 use Rattle.kc_state.specs.AbsEffect as known
 use Rattle.kc_state.specs.AbsEffect.{AbsStore, abs_row}
-use Rattle.kc_state.specs.Location.{location_of}
 use Rattle.kc_state.specs.Operand.{AbsMoment, at_width, effective, linear, operand}
 use Rattle.kc_state.specs.declared.key.Key.{Key}
 use Rattle.kc_state.specs.declared.state.AbsState.{AbsState}
@@ -35,7 +32,7 @@ use Rattle.kc_describes.proofs.InsnLemmas.{has_operands}
 use Rattle.kc_describes.proofs.OperandLemmas.{AreRegisters, IsFor, IsSeen, IsAddress, IsOperand, size_is, set_register, effective_is, linear_is, location_is, operand_is, width_is}
 use Rattle.kc_system.specs.System.{known_moment, IsKernelMoment}
 use Rattle.kc_system.proofs.RowLemmas.{registers}
-use Rattle.kc_moves.specs.Moves.{IsKnownMemory, HasDisp, IsSpelled, IsWrite, StoreAgrees, MovesOn, CoversMove}
+use Rattle.kc_moves.specs.Moves.{IsKnownMemory, HasDisp, StoreAgrees, MovesOn, CoversMove}
 use Rattle.kc_moves.proofs.WidthLemmas.{operand_fits, cut_same}
 
 -- ---- displacements

@@ -1,6 +1,6 @@
 -- Before and after an instruction that moves values between registers and memory: what the analysis knows stands for
 -- the processor, its store is the write, and kernel code goes on at the next instruction. This project's own.
-use Rattle.std.specs.Prelude.{◌≡◌, ℕ, true, List, Option, Some, None, FitsSigned}
+use Rattle.std.specs.Prelude.{◌≡◌, true, List, Option, Some, None, FitsSigned}
 use Rattle.std.specs.Int.{w32}
 use Rattle.kc_insn.specs.Encodable.{is_encodable}
 use Rattle.kc_insn.specs.Fields.{source_of}
