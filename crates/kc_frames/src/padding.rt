@@ -30,6 +30,7 @@ pub(crate) fn grow<V: Copy>(first: &mut First<V>, rest: &V, n: usize)
     requires { n ≤ slot_count }
     ensures value { padded slot_count rest.now first.new ≡ padded slot_count rest.now first.old }
     ensures enough { n ≤ length first.new }
+    ensures bound { length first.new ≤ slot_count }
 {
     while first.len() < n {
         first.push(*rest);
@@ -68,7 +69,9 @@ pub(crate) fn leq_padded<V: Domain + Copy>(
 
 /// Joins into each of `these` what stands at its place in the others.
 pub(crate) fn join_first<V: Domain + Copy>(these: &mut First<V>, those: &First<V>, other: &V)
-    requires { AllZip V.alike these.old (padded (length these.old) other.now those.now) }
+    requires few { length those.now ≤ length these.old }
+    requires alike { AllZip V.alike these.old (padded (length these.old) other.now those.now) }
+    ensures count { length these.new ≡ length these.old }
     ensures value { these.new ≡ rows_joined V.joined these.old (padded (length these.old) other.now those.now) }
 {
     for i in 0..these.len() {

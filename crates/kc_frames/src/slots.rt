@@ -1,6 +1,6 @@
 //! The tracked memory words, this project's own.
 
-ghost use Rattle.std.specs.Prelude.{◌≡◌, ◌<◌, ℕ, All, map, length, get_or, set, sum_by, IfOk, IsTrue, ◌↔◌, IfSome, ◌-◌, drop, replicate};
+ghost use Rattle.std.specs.Prelude.{◌≡◌, ◌<◌, ◌≤◌, ℕ, All, map, length, get_or, set, sum_by, IfOk, IsTrue, ◌↔◌, IfSome, ◌-◌, drop, replicate};
 ghost use Rattle.std.specs.List.{AllZip};
 ghost use Rattle.kc_lattice.specs.Rows.{rows_below, rows_joined};
 ghost use Rattle.kc_frames.specs.Slots.{slot_count, every_slot, AreSlots, redone};
@@ -27,7 +27,7 @@ pub struct Slots<V> {
 }
 
 impl<V> Model for Slots<V> {
-    ghost use Rattle.std.specs.Prelude.{List};
+    ghost use Rattle.std.specs.Prelude.{◌≤◌, List, length};
     ghost use Rattle.std.specs.Coded.{coded_list};
     ghost use Rattle.kc_frames.specs.Slots.{slot_count};
     ghost use Rattle.kc_frames.specs.Padded.{padded};
@@ -37,6 +37,8 @@ impl<V> Model for Slots<V> {
     ghost coded = { coded_list V.code };
 
     ghost view = { λ s. padded slot_count s.rest s.first };
+
+    ghost invariant = { λ s. length s.first ≤ slot_count };
 }
 
 impl<V: Domain + Copy> Slots<V> {

@@ -1,0 +1,4 @@
+mod PaddedLemmas
+mod OrderLemmas
+mod JoinLemmas
+mod ChangeLemmas
