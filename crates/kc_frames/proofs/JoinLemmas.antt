@@ -1,11 +1,10 @@
 -- The join of two lists of which the first values are kept and all others are one value, place by place.
 use Rattle.std.proofs.Common.{◌≡◌, ℕ, zero, suc, ◌+◌, ◌-◌, ◌<◌, ◌≤◌, List, [], ◌∷◌, ◌++◌, length, get_or, take, drop, set}
 use Rattle.std.proofs.Common.{replicate, sym, ap, ◌∙◌, refl, subst, append_assoc, arith}
-use Rattle.std.proofs.lemmas.List.{take_all, drop_all, take_more_set, drop-set-lt, append-nil, drop_more}
+use Rattle.std.proofs.lemmas.List.{take_all, drop_all, take_more_set, drop-set-lt, append-nil}
 use Rattle.std.specs.List.{AllZip}
 use Rattle.kc_lattice.specs.Rows.{rows_joined}
-use Rattle.kc_lattice.proofs.ListLemmas.{drop_read, AllZip-read}
-use Rattle.kc_shapes.specs.RowLaws.{length-rows_joined}
+use Rattle.kc_lattice.proofs.ListLemmas.{drop_read}
 use Rattle.kc_frames.specs.Padded.{padded}
 use Rattle.kc_frames.proofs.PaddedLemmas.{length-padded, padded_at}
 

@@ -11,9 +11,10 @@ use Rattle.kc_frames.specs.Padded.{padded}
 pub same_parts : {A : Type 0} (xs ys us vs : List A) → length xs ≡ length ys → xs ++ us ≡ ys ++ vs
     → (xs ≡ ys) × (us ≡ vs)
 same_parts xs ys us vs count e =
-    let n = length ys in
-    (sym (take_at xs us n count) ∙ ap (take n) e ∙ take_at ys vs n refl,
-    sym (drop_at xs us n count) ∙ ap (drop n) e ∙ drop_at ys vs n refl)
+    let n = length ys in (
+      sym (take_at xs us n count) ∙ ap (take n) e ∙ take_at ys vs n refl,
+      sym (drop_at xs us n count) ∙ ap (drop n) e ∙ drop_at ys vs n refl,
+    )
 
 map-replicate : {A B : Type 0} (f : A → B) (n : ℕ) (r : A) → map f (replicate n r) ≡ replicate n (f r)
 map-replicate f zero r = refl
@@ -122,8 +123,10 @@ module _ {V : Type 0} where
   top_parts f n r xs e =
       let k = n - length xs in
       let parts = same_parts xs (map f xs) (replicate k r) (map f (replicate k r)) (sym (length-map xs f))
-      (e ∙ map-append f xs (replicate k r)) in
-      (parts.0, λ some.
-        let there : 0 < k = omega (arith, some) in
-        sym (get_or-replicate k 0 r r there) ∙ ap (λ ys. get_or ys 0 r) (parts.1 ∙ map-replicate f k r)
-        ∙ get_or-replicate k 0 (f r) r there)
+      (e ∙ map-append f xs (replicate k r)) in (
+        parts.0,
+        λ some.
+            let there : 0 < k = omega (arith, some) in
+            sym (get_or-replicate k 0 r r there) ∙ ap (λ ys. get_or ys 0 r) (parts.1 ∙ map-replicate f k r)
+            ∙ get_or-replicate k 0 (f r) r there,
+      )

@@ -1,4 +1,4 @@
-use Rattle.std.proofs.Common.{◌≡◌, ◌<◌, length, ap, ◌∙◌, arith}
+use Rattle.std.proofs.Common.{◌<◌, length, ap, ◌∙◌, arith}
 use Rattle.kc_frames.specs.Padded.{padded}
 use Rattle.kc_frames.proofs.PaddedLemmas.{push-padded}
 use Rattle.kc_frames.proofs.padding.grow.Goals as goal

@@ -1,11 +1,11 @@
-use Rattle.std.proofs.Common.{◌≡◌, ◌<◌, ◌≤◌, ◌+◌, ◌++◌, length, get_or, take, drop, sym, ap, ◌∙◌, subst, arith}
+use Rattle.std.proofs.Common.{◌≡◌, ◌<◌, ◌+◌, ◌++◌, length, get_or, take, drop, sym, ap, ◌∙◌, subst, arith}
 use Rattle.std.proofs.lemmas.List.{length-set, drop-set-lt}
 use Rattle.std.specs.List.{AllZip}
 use Rattle.kc_lattice.specs.Rows.{rows_joined}
 use Rattle.kc_lattice.proofs.ListLemmas.{AllZip-read}
 use Rattle.kc_frames.specs.Padded.{padded}
 use Rattle.kc_frames.proofs.PaddedLemmas.{length-padded, get_or-padded}
-use Rattle.kc_frames.proofs.JoinLemmas.{join_one, join_all}
+use Rattle.kc_frames.proofs.JoinLemmas.{join_one}
 use Rattle.kc_frames.proofs.padding.join_first.Goals as goal
 
 pub join-requires : goal.join-requires

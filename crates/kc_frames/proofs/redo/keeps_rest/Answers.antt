@@ -1,4 +1,4 @@
-use Rattle.std.proofs.Common.{◌≡◌, ◌<◌, ◌-◌, drop, replicate, sym, ap, ◌∙◌, arith}
+use Rattle.std.proofs.Common.{◌<◌, ◌-◌, sym, ap, ◌∙◌, arith}
 use Rattle.kc_frames.specs.Slots.{redone}
 use Rattle.kc_frames.proofs.ChangeLemmas.{redone_stays}
 use Rattle.kc_frames.proofs.redo.keeps_rest.Goals as goal
@@ -11,7 +11,7 @@ returns-in-Some g c = record {
       let r = c.in-Some.rest.now in
       ap (redone f i) c.in-Some.ensures.value
       ∙ redone_stays f i (296 - i) r (λ j low high.
-          let below : j < 296 = omega (arith, high, c.requires) in
-          c.keeps.ensures.same keeps j low below)
+      let below : j < 296 = omega (arith, high, c.requires) in
+      c.keeps.ensures.same keeps j low below)
       ∙ sym c.in-Some.ensures.value;
 }

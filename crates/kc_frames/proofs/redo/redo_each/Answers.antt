@@ -1,7 +1,7 @@
-use Rattle.std.proofs.Common.{◌≡◌, ◌<◌, ◌+◌, ◌++◌, length, take, drop, sym, ap, ◌∙◌, arith}
+use Rattle.std.proofs.Common.{◌<◌, ◌+◌, ◌++◌, length, take, drop, ap, ◌∙◌, arith}
 use Rattle.std.proofs.lemmas.List.{length-set}
 use Rattle.kc_frames.specs.Slots.{redone}
-use Rattle.kc_frames.proofs.ChangeLemmas.{change_one, change_kept, change_all}
+use Rattle.kc_frames.proofs.ChangeLemmas.{change_one}
 use Rattle.kc_frames.proofs.redo.redo_each.Goals as goal
 
 pub loop-i-preserved : goal.loop-i-preserved

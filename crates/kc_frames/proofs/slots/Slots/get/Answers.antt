@@ -1,4 +1,4 @@
-use Rattle.std.proofs.Common.{◌≡◌, get_or, ap, ◌∙◌}
+use Rattle.std.proofs.Common.{get_or, ap, ◌∙◌}
 use Rattle.kc_frames.proofs.PaddedLemmas.{get_or-padded}
 use Rattle.kc_frames.proofs.slots.Slots.get.Goals as goal
 

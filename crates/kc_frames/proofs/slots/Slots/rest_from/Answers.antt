@@ -1,4 +1,4 @@
-use Rattle.std.proofs.Common.{◌≡◌, ◌≤◌, length, drop, sym, ap, ◌∙◌, arith}
+use Rattle.std.proofs.Common.{◌≤◌, length, drop, sym, ap, ◌∙◌, arith}
 use Rattle.kc_frames.proofs.PaddedLemmas.{drop-padded}
 use Rattle.kc_frames.proofs.slots.Slots.rest_from.Goals as goal
 

@@ -1,4 +1,4 @@
-use Rattle.std.proofs.Common.{◌≡◌, ◌<◌, ◌≤◌, length, set, sym, ap, ◌∙◌, refl, subst, arith}
+use Rattle.std.proofs.Common.{◌<◌, ◌≤◌, length, set, sym, ap, ◌∙◌, refl, subst, arith}
 use Rattle.std.proofs.lemmas.List.{length-set}
 use Rattle.kc_frames.specs.Padded.{padded}
 use Rattle.kc_frames.proofs.PaddedLemmas.{set-padded, set-rest}

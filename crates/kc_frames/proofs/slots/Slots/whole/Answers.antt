@@ -1,4 +1,4 @@
-use Rattle.std.proofs.Common.{◌≡◌, length, sym, ap, ◌∙◌}
+use Rattle.std.proofs.Common.{length, sym, ap, ◌∙◌}
 use Rattle.kc_frames.proofs.PaddedLemmas.{length-padded}
 use Rattle.kc_frames.proofs.slots.Slots.whole.Goals as goal
 

@@ -1,4 +1,4 @@
-use Rattle.std.proofs.Common.{◌≡◌, ◌<◌, nat_eq, length, map, sym, ap, ◌∙◌, refl, subst, arith}
+use Rattle.std.proofs.Common.{◌≡◌, ◌<◌, nat_eq, length, map, sym, ap, ◌∙◌, subst, arith}
 use Rattle.std.proofs.lemmas.Bool.{false≢true}
 use Rattle.kc_frames.proofs.PaddedLemmas.{top_whole, top_parts}
 use Rattle.kc_frames.proofs.slots.SlotsDomain.is_top.Goals as goal
@@ -12,7 +12,7 @@ returns-then-len-eq-COUNT g c =
       is = (
         λ h. subst (λ vs. vs ≡ map f vs) c.self.view_is
             (top_whole f 296 s.rest s.first c.self.invariant each (λ some.
-              absurd (omega (arith, some, c.len.ensures.value, c.if-len-eq-COUNT.true)))),
+            absurd (omega (arith, some, c.len.ensures.value, c.if-len-eq-COUNT.true)))),
         λ h. ap (λ k. nat_eq k 296) c.if-len-eq-COUNT.true,
       );
     }

@@ -57,7 +57,7 @@ returns-else-len-lt-COUNT g c =
     record {
       value = ap (padded 296 r) c.join_first.ensures.value
           ∙ join_padded f 296 r o.rest r xs o.first few c.grow.ensures.bound (λ some.
-            absurd (omega (arith, some, c.if-len-lt-COUNT.false, c.len-2.ensures.value, c.join_first.ensures.count)))
+          absurd (omega (arith, some, c.if-len-lt-COUNT.false, c.len-2.ensures.value, c.join_first.ensures.count)))
           ∙ ap (λ us. rows_joined f us (padded 296 o.rest o.first)) (c.grow.ensures.value ∙ c.self.view_is)
           ∙ ap (rows_joined f c.args.self.now) c.other.view_is;
     }

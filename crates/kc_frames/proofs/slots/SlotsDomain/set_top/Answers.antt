@@ -1,4 +1,4 @@
-use Rattle.std.proofs.Common.{◌≡◌, map, sym, ap, ◌∙◌}
+use Rattle.std.proofs.Common.{map, sym, ap, ◌∙◌}
 use Rattle.kc_frames.specs.Padded.{padded}
 use Rattle.kc_frames.proofs.PaddedLemmas.{map-padded}
 use Rattle.kc_frames.proofs.slots.SlotsDomain.set_top.Goals as goal

@@ -1,4 +1,4 @@
-use Rattle.std.proofs.Common.{◌≡◌, All, length, sym, ap, ◌∙◌, subst}
+use Rattle.std.proofs.Common.{All, length, sym, ap, ◌∙◌, subst}
 use Rattle.kc_frames.proofs.PaddedLemmas.{All-padded, length-padded}
 use Rattle.kc_frames.proofs.slots.SlotsDomain.tell.Goals as goal
 
