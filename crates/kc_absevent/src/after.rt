@@ -160,6 +160,11 @@ impl<'a> Change<Value> for Kept<'a> {
     fn at(&self, i: u16, old: &Value) -> Value {
         if self.loses(i) { Value::top() } else { *old }
     }
+
+    // What isn't known stays unknown.
+    fn keeps(&self, _i: u16, old: &Value) -> bool {
+        old.is_top()
+    }
 }
 
 impl<'a> Becomes for Kept<'a> {

@@ -87,6 +87,11 @@ impl<'a> Change<Value> for Framed<'a> {
             None => Value::top(),
         }
     }
+
+    // Of the slots after those of the frame nothing is known.
+    fn keeps(&self, i: u16, old: &Value) -> bool {
+        usize::from(i) >= self.frame.len() + 40 && old.is_top()
+    }
 }
 
 impl<'a> Becomes for Framed<'a> {
