@@ -162,6 +162,7 @@ impl<'a> Change<Value> for Kept<'a> {
     }
 
     // What isn't known stays unknown.
+    #[tactic(auto, using(crate::proofs::ReturnForms::kept_top))]
     fn keeps(&self, _i: u16, old: &Value) -> bool {
         old.is_top()
     }
@@ -175,6 +176,11 @@ impl<'a> Becomes for Kept<'a> {
     fn is_below(&self, i: u16, old: &Value, new: &Value) -> bool {
         old.tell();
         new.is_top() || self.at(i, old).leq(new)
+    }
+
+    #[tactic(auto, using(crate::proofs::ReturnForms::kept_top))]
+    fn keeps_rest(&self, _i: u16, old: &Value) -> bool {
+        old.is_top()
     }
 }
 

@@ -89,6 +89,7 @@ impl<'a> Change<Value> for Framed<'a> {
     }
 
     // Of the slots after those of the frame nothing is known.
+    #[tactic(auto, using(crate::proofs::FrameForms::entered_top))]
     fn keeps(&self, i: u16, old: &Value) -> bool {
         usize::from(i) >= self.frame.len() + 40 && old.is_top()
     }
@@ -99,6 +100,11 @@ impl<'a> Becomes for Framed<'a> {
 
     fn is_below(&self, i: u16, old: &Value, new: &Value) -> bool {
         self.at(i, old).leq(new)
+    }
+
+    #[tactic(auto, using(crate::proofs::FrameForms::entered_top))]
+    fn keeps_rest(&self, i: u16, old: &Value) -> bool {
+        usize::from(i) >= self.frame.len() + 40 && old.is_top()
     }
 }
 

@@ -1,4 +1,4 @@
 mod PaddedLemmas
-mod OrderLemmas
+pub mod OrderLemmas
 mod JoinLemmas
-mod ChangeLemmas
+pub mod ChangeLemmas
