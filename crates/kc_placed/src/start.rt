@@ -39,7 +39,8 @@ impl<'a> Change<Value> for Start<'a> {
 
     // Of the slots after the description's words nothing is known.
     fn keeps(&self, i: u16, old: &Value) -> bool {
-        usize::from(i) >= self.cfg.words.len() + 8 && old.is_top()
+        let cfg = self.cfg;
+        usize::from(i) >= cfg.words.len() + 8 && old.is_top()
     }
 }
 
