@@ -7,3 +7,4 @@ pub mod RowLemmas
 pub mod FaultLemmas
 pub mod EntryForms
 pub mod ReturnForms
+pub mod FrameForms

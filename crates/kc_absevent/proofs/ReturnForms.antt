@@ -46,6 +46,16 @@ kept_below_top d key rsp c i old new h e =
     subst (λ (v : AbsValue). value_below (kept d key rsp c i old) v ≡ true) (sym e)
     (below_top (loses d key rsp c i) old h)
 
+still_top : (lost : Bool) → cond lost value_top value_top ≡ value_top
+still_top true = refl
+still_top false = refl
+
+-- a slot of which nothing is known stays so
+pub kept_top : (d : Description) (key : Key) (rsp : Option Location) (c : ClobberSets) (i : ℕ) (old : AbsValue)
+    → old ≡ value_top → kept d key rsp c i old ≡ old
+kept_top d key rsp c i old e =
+    subst (λ (v : AbsValue). kept d key rsp c i v ≡ v) (sym e) (still_top (loses d key rsp c i))
+
 -- of seven tests that hold, two are replaced
 two_decide : (a b c d e f g latches slots : Bool) → (a && (b && (c && (d && (e && (f && g)))))) ≡ true
     → (a && (b && (c && (d && (latches && (f && slots)))))) ≡ (latches && slots)

@@ -160,6 +160,12 @@ impl<'a> Change<Value> for Kept<'a> {
     fn at(&self, i: u16, old: &Value) -> Value {
         if self.loses(i) { Value::top() } else { *old }
     }
+
+    // What isn't known stays unknown.
+    #[tactic(auto, using(crate::proofs::ReturnForms::kept_top))]
+    fn keeps(&self, _i: u16, old: &Value) -> bool {
+        old.is_top()
+    }
 }
 
 impl<'a> Becomes for Kept<'a> {
@@ -170,6 +176,11 @@ impl<'a> Becomes for Kept<'a> {
     fn is_below(&self, i: u16, old: &Value, new: &Value) -> bool {
         old.tell();
         new.is_top() || self.at(i, old).leq(new)
+    }
+
+    #[tactic(auto, using(crate::proofs::ReturnForms::kept_top))]
+    fn keeps_rest(&self, _i: u16, old: &Value) -> bool {
+        old.is_top()
     }
 }
 

@@ -87,6 +87,12 @@ impl<'a> Change<Value> for Framed<'a> {
             None => Value::top(),
         }
     }
+
+    // Of the slots after those of the frame nothing is known.
+    #[tactic(auto, using(crate::proofs::FrameForms::entered_top))]
+    fn keeps(&self, i: u16, old: &Value) -> bool {
+        usize::from(i) >= self.frame.len() + 40 && old.is_top()
+    }
 }
 
 impl<'a> Becomes for Framed<'a> {
@@ -94,6 +100,11 @@ impl<'a> Becomes for Framed<'a> {
 
     fn is_below(&self, i: u16, old: &Value, new: &Value) -> bool {
         self.at(i, old).leq(new)
+    }
+
+    #[tactic(auto, using(crate::proofs::FrameForms::entered_top))]
+    fn keeps_rest(&self, i: u16, old: &Value) -> bool {
+        usize::from(i) >= self.frame.len() + 40 && old.is_top()
     }
 }
 

@@ -1,5 +1,5 @@
 -- Lower bounds of live stack bytes, this project's own: their order and what each stands for, and one for each stack.
-use Rattle.std.specs.Prelude.{◌≡◌, ◌≢◌, ℕ, ◌-◌, ◌^◌, ◌<◌, ◌≤◌, min, Bool, true, cond, ◌==◌, leb, List, length, All, map, sum_by, Option, Some, None}
+use Rattle.std.specs.Prelude.{◌≡◌, ◌≢◌, ℕ, ◌-◌, ◌^◌, ◌<◌, ◌≤◌, min, Bool, true, cond, ◌==◌, leb, length, All, map, sum_by, Option, Some, None}
 use Rattle.kc_lattice.specs.Rows.{rows_below, rows_joined}
 use Rattle.kc_frames.specs.declared.floor.Floor.{Floor}
 use Rattle.kc_frames.specs.declared.floor.Floor.TheVariants.{At, Base}

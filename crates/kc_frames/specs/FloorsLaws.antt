@@ -1,5 +1,5 @@
 -- The laws of floors: the `Domain` and the `Meaning` of `Floor` and `Floors` cite these.
-use Rattle.std.proofs.Common.{◌≡◌, ℕ, ◌-◌, ◌*◌, ◌^◌, ◌≤◌, ◌<◌, Bool, true, leb, cond, ◌==◌, min, Option, Some, None, List, All, length, refl, sym, ap, ◌∙◌, subst, inl, inr, ◌⊎◌, arith, lit<}
+use Rattle.std.proofs.Common.{◌≡◌, ℕ, ◌-◌, ◌*◌, ◌^◌, ◌≤◌, Bool, true, cond, Option, Some, None, List, refl, sym, ap, ◌∙◌, subst, inl, inr, ◌⊎◌, arith, lit<}
 use Rattle.std.proofs.lemmas.Bool.{cases_eq, eq-eqb, ne_eqb, eqb-true, leb-true, le-leb}
 use Rattle.kc_lattice.specs.Laws.{Laws, AllAlike}
 use Rattle.kc_shapes.specs.RowLaws.{counted_laws, rows_rank-le, all_alike_rows}

@@ -1,6 +1,7 @@
 pub mod ClobberSets
 pub mod Floors
 pub mod Slots
+pub mod Padded
 pub mod Clobber
 pub mod FloorsLaws
 pub mod SlotsLaws

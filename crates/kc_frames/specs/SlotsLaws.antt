@@ -1,5 +1,5 @@
 -- The laws of slots: the `Domain` of `Slots` cites these.
-use Rattle.std.proofs.Common.{◌≡◌, ℕ, ◌*◌, ◌≤◌, Bool, List, map, All, sum_by, subst}
+use Rattle.std.proofs.Common.{ℕ, ◌*◌, ◌≤◌, Bool, List, map, sum_by, subst}
 use Rattle.std.specs.List.{AllZip}
 use Rattle.kc_lattice.specs.Laws.{Laws}
 use Rattle.kc_lattice.specs.Rows.{rows_below, rows_joined}

@@ -2,8 +2,10 @@
 #![tactic(auto)]
 
 mod clobber;
+mod first;
 mod floor;
 mod floors;
+mod padding;
 mod redo;
 mod slots;
 

@@ -36,6 +36,12 @@ impl<'a> Change<Value> for Start<'a> {
             }
         }
     }
+
+    // Of the slots after the description's words nothing is known.
+    fn keeps(&self, i: u16, old: &Value) -> bool {
+        let cfg = self.cfg;
+        usize::from(i) >= cfg.words.len() + 8 && old.is_top()
+    }
 }
 
 // Whether the values at the start are covered.

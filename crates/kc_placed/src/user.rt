@@ -22,6 +22,11 @@ impl Change<Value> for Plain {
     fn at(&self, i: u16, old: &Value) -> Value {
         if i < 40 { old.plain() } else { Value::top() }
     }
+
+    // What isn't known stays unknown.
+    fn keeps(&self, _i: u16, old: &Value) -> bool {
+        old.is_top()
+    }
 }
 
 /// Whether the user state covers what is known after a return at this node. It takes no memory.

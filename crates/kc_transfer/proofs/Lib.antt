@@ -1,2 +1,3 @@
 pub mod MaskLemmas
 pub mod StepForms
+pub mod EditForms

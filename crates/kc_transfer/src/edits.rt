@@ -108,6 +108,12 @@ impl<'a> Change<Value> for Edits<'a> {
         let words = &self.words;
         edited_by(words.at(i), self.l, old)
     }
+
+    // What isn't known stays unknown.
+    #[tactic(auto, using(crate::proofs::EditForms::edited_top))]
+    fn keeps(&self, _i: u16, old: &Value) -> bool {
+        old.is_top()
+    }
 }
 
 fn tame_each(items: &mut [Value])

@@ -1,0 +1,4 @@
+mod PaddedLemmas
+pub mod OrderLemmas
+mod JoinLemmas
+pub mod ChangeLemmas

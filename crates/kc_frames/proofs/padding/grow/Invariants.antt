@@ -1,0 +1,10 @@
+use Rattle.std.proofs.Common.{◌≡◌, ◌-◌, length}
+use Rattle.kc_frames.specs.Slots.{slot_count}
+use Rattle.kc_frames.specs.Padded.{padded}
+use Rattle.kc_frames.proofs.padding.grow.Given as goal
+
+abbrev pub invariant-loop-first : goal.invariant-loop-first
+invariant-loop-first g l = padded slot_count l.rest l.first ≡ padded slot_count l.rest l.initial.first
+
+abbrev pub decreases-loop-first : goal.decreases-loop-first
+decreases-loop-first g l = slot_count - length l.first
