@@ -3,7 +3,7 @@ use Rattle.std.proofs.Common.{◌≡◌, ℕ, zero, suc, ◌+◌, ◌-◌, ◌<�
 use Rattle.std.proofs.Common.{set, map, replicate, All, sym, ap, ◌∙◌, refl, append_assoc, arith}
 use Rattle.std.proofs.lemmas.List.{length-append, length-replicate, length-set, length-map, length_push, get_or-replicate}
 use Rattle.std.proofs.lemmas.List.{get_or_past, set-append_left, set-get_or, map-append, drop-replicate, take_at, drop_at}
-use Rattle.std.proofs.lemmas.List.{replicate-append-replicate}
+use Rattle.std.proofs.lemmas.List.{replicate-append-replicate, length-take-le, take_more, take_all}
 use Rattle.std.proofs.lemmas.List.Elements.{All-append, All-replicate}
 use Rattle.kc_frames.specs.Padded.{padded}
 
@@ -61,6 +61,19 @@ module _ {V : Type 0} where
       let left = n - length (xs ++ r ∷ []) in
       let more : suc left ≡ n - length xs = omega (arith, length_push xs r, below) in
       append_assoc xs (r ∷ []) (replicate left r) ∙ ap (λ k. xs ++ replicate k r) more
+
+  -- the last one needs no place where it is the rest
+  pub pop-padded : (n : ℕ) (r : V) (xs : List V) → 0 < length xs → length xs ≤ n → get_or xs (length xs - 1) r ≡ r
+      → padded n r (take (length xs - 1) xs) ≡ padded n r xs
+  pop-padded n r xs some within last =
+      let m = length xs - 1 in
+      let inside : m < length xs = omega (arith, some) in
+      let next : m + 1 ≡ length xs = omega (arith, some) in
+      let few : length (take m xs) < n = omega (arith, length-take-le m xs (omega arith), some, within) in
+      let whole : take m xs ++ r ∷ [] ≡ xs =
+      ap (λ v. take m xs ++ v ∷ []) (sym last) ∙ sym (take_more xs m r inside) ∙ ap (λ k. take k xs) next
+      ∙ take_all (length xs) xs (omega arith) in
+      sym (push-padded n r (take m xs) few) ∙ ap (padded n r) whole
 
   pub drop-padded : (n i : ℕ) (r : V) (xs : List V) → length xs ≤ n → length xs ≤ i
       → drop i (padded n r xs) ≡ replicate (n - i) r

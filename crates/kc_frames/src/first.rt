@@ -1,6 +1,6 @@
 //! The first ones of some slots, this project's own.
 
-ghost use Rattle.std.specs.Prelude.{◌≡◌, ◌<◌, ◌≤◌, ℕ, [], ◌∷◌, ◌++◌, length, map, get_or, set, IfOk};
+ghost use Rattle.std.specs.Prelude.{◌≡◌, ◌<◌, ◌≤◌, ◌-◌, ℕ, [], ◌∷◌, ◌++◌, length, take, map, get_or, set, IfOk};
 ghost use Rattle.kc_frames.specs.Slots.{slot_count};
 
 use kc_lattice::{Domain, set_top_each};
@@ -78,6 +78,15 @@ impl<V: Copy> First<V> {
         ensures { self.new ≡ self.old ++ v ∷ [] }
     {
         let _ = self.items.push(v);
+    }
+
+    /// Takes the last one off.
+    pub(crate) fn pop(&mut self)
+        requires { 0 < length self.old }
+        ensures { self.new ≡ take (length self.old - 1) self.old }
+    {
+        let n = self.items.len();
+        self.items.truncate(n - 1);
     }
 
     /// Makes them those of `other`. It takes no memory.

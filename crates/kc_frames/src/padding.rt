@@ -1,6 +1,6 @@
 //! Slots of which all from some on are one value, this project's own.
 
-ghost use Rattle.std.specs.Prelude.{◌≡◌, ◌<◌, ◌≤◌, ◌+◌, ℕ, length, get_or, IsTrue};
+ghost use Rattle.std.specs.Prelude.{◌≡◌, ◌<◌, ◌≤◌, ◌+◌, ◌-◌, ℕ, length, get_or, IsTrue};
 ghost use Rattle.std.specs.List.{AllZip};
 ghost use Rattle.kc_lattice.specs.Rows.{rows_below, rows_joined};
 ghost use Rattle.kc_frames.specs.Slots.{slot_count};
@@ -37,6 +37,27 @@ pub(crate) fn grow<V: Copy>(first: &mut First<V>, rest: &V, n: usize)
     }
 }
 
+// Whether there is a last one and it is `rest`.
+fn is_last<V: Domain + Copy>(first: &First<V>, rest: &V) -> bool
+    ensures some { IsTrue result → 0 < length first.now }
+    ensures bound { length first.now ≤ slot_count }
+    ensures last { IsTrue result → get_or first.now (length first.now - 1) rest.now ≡ rest.now }
+{
+    let n = first.len();
+    n > 0 && is_same(first.get(n - 1), rest)
+}
+
+/// Takes off the last ones that are `rest`.
+pub(crate) fn trim<V: Domain + Copy>(first: &mut First<V>, rest: &V)
+    ensures value { padded slot_count rest.now first.new ≡ padded slot_count rest.now first.old }
+    ensures bound { length first.new ≤ slot_count }
+{
+    while is_last(first, rest) {
+        first.pop();
+    }
+    let _n = first.len();
+}
+
 // How many the longer of the two has.
 fn longer<V: Copy>(these: &First<V>, those: &First<V>) -> usize
     ensures these { length these.now ≤ result }
@@ -65,6 +86,16 @@ pub(crate) fn leq_padded<V: Domain + Copy>(
         }
     }
     n == COUNT || rest.leq(other)
+}
+
+/// Joins `other` into `rest`, where fewer than all are kept.
+pub(crate) fn join_rest<V: Domain>(rest: &mut V, other: &V, kept: usize)
+    requires { kept < slot_count → V.alike rest.old other.now }
+    ensures value { kept < slot_count → rest.new ≡ V.joined rest.old other.now }
+{
+    if kept < COUNT {
+        rest.join(other);
+    }
 }
 
 /// Joins into each of `these` what stands at its place in the others.

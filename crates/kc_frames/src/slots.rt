@@ -8,7 +8,7 @@ ghost use Rattle.kc_frames.specs.Padded.{padded};
 ghost use Rattle.kc_frames.specs.SlotsLaws.{slots_laws};
 
 use crate::first::{COUNT, First};
-use crate::padding::{at, grow, is_same, join_first, leq_padded};
+use crate::padding::{at, grow, is_same, join_first, join_rest, leq_padded, trim};
 use crate::redo::{Change, redo_each};
 use kc_lattice::{Domain, is_top_each, tell_each};
 use kc_plain::NoMemory;
@@ -101,6 +101,7 @@ impl<V: Domain + Copy> Slots<V> {
         ensures value { self.new ≡ redone (C.changed change.now) 0 self.old }
     {
         redo_each(self, change);
+        trim(&mut self.first, &self.rest);
     }
 
     /// Makes each slot what it is in `other`. It takes no memory.
@@ -134,9 +135,9 @@ impl<V: Domain + Copy> Domain for Slots<V> {
     fn join(&mut self, other: &Slots<V>) {
         grow(&mut self.first, &self.rest, other.first.len());
         join_first(&mut self.first, &other.first, &other.rest);
-        if self.first.len() < COUNT {
-            self.rest.join(&other.rest);
-        }
+        let kept = self.first.len();
+        join_rest(&mut self.rest, &other.rest, kept);
+        trim(&mut self.first, &self.rest);
     }
 
     fn is_top(&self) -> bool {
@@ -146,6 +147,7 @@ impl<V: Domain + Copy> Domain for Slots<V> {
     fn set_top(&mut self) {
         self.first.set_top();
         self.rest.set_top();
+        trim(&mut self.first, &self.rest);
     }
 
     fn tell(&self) {

@@ -1,4 +1,4 @@
-use Rattle.std.proofs.Common.{◌≡◌, ◌<◌, ◌≤◌, ◌+◌, ◌-◌, ◌∙◌, drop, refl, arith}
+use Rattle.std.proofs.Common.{◌-◌, ◌∙◌, drop, refl, arith}
 use Rattle.kc_frames.proofs.ChangeLemmas.{rest_below}
 use Rattle.kc_value.specs.AbsValue.{AbsValue}
 use Rattle.kc_value.specs.Value.{value_below}
