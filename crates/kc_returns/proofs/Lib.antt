@@ -1,3 +1,4 @@
 pub mod LoadLemmas
 pub mod FetchLemmas
 pub mod WordLemmas
+pub mod ContextLemmas
