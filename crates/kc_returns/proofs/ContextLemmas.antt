@@ -1,14 +1,14 @@
 -- After a return the processor is the one that is due. Flags and selectors are loaded as they are, the spaces are the
 -- key's, so the interrupted processor's, and by C12 each register of interrupted kernel code still holds its word. The
 -- chain loses its newest activation, which alone can have interrupted the user.
-use Rattle.std.proofs.Common.{◌≡◌, ◌≢◌, ℕ, ◌%◌, ◌^◌, ◌<◌, ◌&&◌, ◌||◌, not, inl, inr, ◌⊎◌, Bool, true, false, List, [], ◌∷◌, ◌++◌, length, set, All, Option, Some, None, slice_index, get_or-set_same, get_or-set_other, mod-eq_of_lt, refl, sym, ap, ◌∙◌, subst, arith}
+use Rattle.std.proofs.Common.{◌≡◌, ◌≢◌, ℕ, ◌%◌, ◌^◌, ◌<◌, ◌&&◌, ◌||◌, not, inl, inr, ◌⊎◌, Bool, true, false, List, [], ◌∷◌, ◌++◌, length, get_or, set, All, Option, Some, None, slice_index, get_or-set_same, get_or-set_other, mod-eq_of_lt, refl, sym, ap, ◌∙◌, subst, arith}
 use Rattle.std.proofs.lemmas.Bool.{and_parts, or_cases, not-true, cases_eq, true≢false, false≢true}
 use Rattle.std.proofs.lemmas.Grind.{same_number_lists}
 use Rattle.std.proofs.lemmas.List.{length-set}
 use Rattle.std.proofs.lemmas.List.Elements.{All-nil, All-cons, All-head, All-tail, All-set}
 use Rattle.kc_insn.specs.declared.insn.Insn.{Insn}
 use Rattle.kc_regions.specs.Description.{Description}
-use Rattle.kc_regions.specs.Permission.{is_user_cs}
+use Rattle.kc_regions.specs.Permission.{user_cs64, user_ss, is_user_cs}
 use Rattle.kc_regions.specs.Region.{stack_of}
 use Rattle.kc_regions.specs.Valid.{IsValid}
 use Rattle.kc_cpu.specs.declared.cpu.Cpu.{Cpu}
@@ -24,7 +24,7 @@ use Rattle.kc_mem.proofs.NumberLemmas.{read_word}
 use Rattle.kc_exec.specs.Admitted.{AreUserFlags, IsUserGs, IsAdmitted}
 use Rattle.kc_exec.specs.Change.{stack_address, stack_word}
 use Rattle.kc_exec.specs.Moment.{Moment}
-use Rattle.kc_exec.specs.Register.{register, with_register, rsp}
+use Rattle.kc_exec.specs.Register.{register, with_register, rcx, rsp, r11}
 use Rattle.kc_exec.specs.RFlags.{loadable, sysret_mask, loaded}
 use Rattle.kc_exec.specs.declared.state.Activation.{Activation}
 use Rattle.kc_exec.specs.declared.state.State.{State}
@@ -44,10 +44,18 @@ use Rattle.kc_describes.specs.Row.{value_at}
 use Rattle.kc_describes.specs.Spaces.{IsGsOf, IsCr3Of, GsStands}
 use Rattle.kc_describes.specs.Widths.{IsWord, IsMode, IsCpu, IsActivation, IsMachine}
 use Rattle.kc_describes.proofs.ChainLemmas.{newest_all}
-use Rattle.kc_returns.specs.Returns.{HasSpaces, due_of}
+use Rattle.kc_returns.specs.Returns.{HasSelectors, HasSpaces, due_of}
 use Rattle.kc_returns.specs.Whole.{HoldsFrame}
-use Rattle.kc_returns.proofs.LoadLemmas.{IsKernels, IsUsers, interrupted, flags_reload, spaces_are_kept}
-use Rattle.kc_returns.proofs.WordLemmas.{m, c, typed_due, reg_due, register_word, entries_at}
+use Rattle.kc_returns.proofs.LoadLemmas.{IsKernels, IsUsers, interrupted, flags_reload, selectors_are_due, spaces_are_kept}
+use Rattle.kc_returns.proofs.WordLemmas.{m, c, typed_due, reg_due, register_word, later_word, entries_at}
+
+-- ---- C12
+
+-- what C12 says of the registers that a SYSRETQ loads
+abbrev pub loads_user : AbsMoment → Bool
+loads_user m =
+    is_entry (value_at m.cpu.regs 1) 16
+    && (is_entry (value_at m.cpu.regs 11) 17 && is_entry (value_at m.cpu.regs 4) 4)
 
 -- ---- the chain
 
@@ -287,3 +295,73 @@ module _ (cfg : Description) (valid : IsValid cfg) (key : Key) (at : ℕ) (found
       All-set IsWord S.cpu.regs 4 (stack_word there 3)
           (read_word S.mem.bytes (stack_address there 3) 8 (omega arith) D.typed.mem) D.typed.cpu.regs.1,
     )
+
+    -- ---- SYSRETQ
+
+    abbrev pub sysret_cpu : Mode → Cpu
+    sysret_cpu into = record S.cpu {
+      rip = register S.cpu rcx;
+      flags = loaded sysret_mask (register S.cpu r11);
+      cs = user_cs64 cfg.cpu;
+      ss = user_ss cfg.cpu;
+      mode = into;
+    }
+
+    -- a syscall's context is the user's
+    user_side : key.syscall ≡ true → key.kernel ≡ false
+    user_side kind = (D.chain.fits.rules.syscall kind).1
+
+    pub sysret_restores : (into : Mode) → key.syscall ≡ true → loads_user before ≡ true
+        → Restores (sysret_cpu into) a
+    sysret_restores into kind h =
+        let p = and_parts (is_entry (value_at s.regs 1) 16)
+        (is_entry (value_at s.regs 11) 17 && is_entry (value_at s.regs 4) 4) h in
+        let q = and_parts (is_entry (value_at s.regs 11) 17) (is_entry (value_at s.regs 4) 4) p.1 in
+        let selectors = selectors_are_due cfg key S.chain D.chain in (
+          record {
+            rip = held 1 16 p.0 ∙ later_word due typed.due.regs.0 0;
+            cs = sym (selectors.long kind);
+            flags = ap (λ n. loaded sysret_mask n) (held 11 17 q.0 ∙ later_word due typed.due.regs.0 1)
+                ∙ (flags_reload cfg key S.chain D.chain).1;
+            rsp = held 4 4 q.1 ∙ register_word due typed.due.regs.0 4 (omega arith);
+            ss = sym (selectors.user (user_side kind)).1;
+            gs = spaces.gs;
+            kgs = spaces.kgs;
+            cr3 = spaces.cr3;
+          },
+          λ other. absurd (true≢false (sym (kernel_of other) ∙ user_side kind)),
+        )
+      where
+        held : (r w : ℕ) → is_entry (value_at s.regs r) w ≡ true
+            → slice_index S.cpu.regs r ≡ get_or (words_of due) w 0
+        held r w e = reg_due cfg valid key at found s is S D next next_fits r w e
+
+  -- ---- both
+
+  -- A state that agrees with the one after the return: the context is given back.
+  pub given_back : (T : State) (cpu : Cpu) → (length cpu.regs ≡ 16) × All IsWord cpu.regs
+      → cpu.mode ≡ a.saved.mode → Restores cpu a → T.cpu ≡ cpu → T.mem.bytes ≡ S.mem.bytes → T.stopped ≡ false
+      → T.chain ≡ without_newest S.chain → GivesBack cfg S T
+  given_back T cpu regs into back same mem runs chain =
+      record {
+        typed = record {
+          cpu = subst IsCpu (sym same)
+              (typed_again cpu due regs (subst IsMode (sym into) typed.saved.mode) back.0 typed.due);
+          mem = subst AreBytes (sym mem) D.typed.mem;
+          chain = subst (All IsActivation) (sym chain) (front_all IsActivation S.chain D.typed.chain);
+        };
+        running = runs;
+        activation = a;
+        chain =
+            rejoined S.chain D.chain.one_user
+            ∙ ap (λ (front : List Activation). front ++ a ∷ []) (sym chain);
+        context = subst (λ z. Restores z a) (sym same) back;
+        mode = ap (λ (z : Cpu). z.mode) same ∙ into;
+        memory = mem;
+        user = λ e. (
+          chain ∙ user_alone S.chain D.chain.one_user e,
+          subst (IsAdmitted cfg) (sym same)
+              (admitted_again cfg cpu due back.0 (admitted_due cfg key a who_is
+              (D.chain.fits.side ∙ ap (λ z. not (is_user_mode z)) e))),
+        );
+      }
