@@ -2,3 +2,4 @@ pub mod LoadLemmas
 pub mod FetchLemmas
 pub mod WordLemmas
 pub mod ContextLemmas
+pub mod AccessLemmas
