@@ -3,3 +3,4 @@ pub mod FetchLemmas
 pub mod WordLemmas
 pub mod ContextLemmas
 pub mod AccessLemmas
+pub mod WholeLemmas
