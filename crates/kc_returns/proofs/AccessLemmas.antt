@@ -216,7 +216,8 @@ module _ (cfg : Description) (valid : IsValid cfg) (key : Key) (at : ℕ) (found
             (All-append Quiet of_ss [] stack (All-nil Quiet))
 
         -- C7 of an IRETQ
-        pub iret_quiet : is_permitted before Iretq of_iret ≡ true → All Quiet (accesses_of S.cpu len (effect there Iretq))
+        pub iret_quiet : is_permitted before Iretq of_iret ≡ true
+            → All Quiet (accesses_of S.cpu len (effect there Iretq))
         unfolding effect row
         iret_quiet permitted =
             let p = and_parts (list_all (λ a. may_at before a.at a.size a.touch) of_iret)

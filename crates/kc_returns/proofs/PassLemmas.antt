@@ -1,14 +1,14 @@
 -- Where the abstract step of a return is answered, its conditions hold: each of them refuses where its test fails.
-use Rattle.std.proofs.Common.{◌≡◌, ℕ, ◌⊎◌, inl, inr, Bool, true, false, not, Result, Ok, Err, refl, sym, ap, ◌∙◌, subst}
+use Rattle.std.proofs.Common.{◌≡◌, ◌⊎◌, inl, inr, Bool, true, false, not, Result, Ok, Err, refl, sym, ap, ◌∙◌}
 use Rattle.kc_insn.specs.declared.insn.Insn.{Insn}
 use Rattle.kc_insn.specs.declared.insn.Insn.TheVariants.{Iretq, Sysretq}
 use Rattle.kc_regions.specs.Description.{Description}
 use Rattle.kc_rules.specs.Rules.{refuse, ◌>>=◌}
 use Rattle.kc_rules.proofs.AnswerLemmas.{done, ok_is}
-use Rattle.std.proofs.lemmas.Bool.{not-false}
-use Rattle.kc_state.specs.AbsEffect.{AbsChange, abs_row, moment_of}
-use Rattle.kc_state.specs.AbsStep.{condition, conditions, answer, abs_step}
-use Rattle.kc_state.specs.Conditions.{accesses_of, is_exact, uses_kernel_gs, is_permitted, is_clear, loads_known_cr3, calls_well, is_allowed, restores}
+use Rattle.kc_state.specs.AbsEffect.{abs_row, moment_of}
+use Rattle.kc_state.specs.AbsStep.{condition, conditions, answer}
+use Rattle.kc_state.specs.Conditions.{accesses_of, is_exact, uses_kernel_gs, is_permitted, is_clear}
+use Rattle.kc_state.specs.Conditions.{loads_known_cr3, calls_well, is_allowed, restores}
 use Rattle.kc_state.specs.Operand.{AbsMoment}
 use Rattle.kc_state.specs.declared.condition.Condition.{Condition}
 use Rattle.kc_state.specs.declared.key.Key.{Key}

@@ -43,8 +43,8 @@ pub record PassesReturn (m : AbsMoment) (insn : Insn) : Type 0 where
 
 -- where the step of the analysis is answered for a return, these hold, and the program goes on nowhere in its context
 abbrev pub StepPassesReturn : Type 0
-StepPassesReturn = (cfg : Description) (key : Key) (s : AbsState) (insn : Insn) (next : ℕ) (succ : Succ) (out : AbsState)
-    → (insn ≡ Iretq) ⊎ (insn ≡ Sysretq) → abs_step cfg key s insn next ≡ Ok (succ, out)
+StepPassesReturn = (cfg : Description) (key : Key) (s : AbsState) (insn : Insn) (next : ℕ) (succ : Succ)
+    (out : AbsState) → (insn ≡ Iretq) ⊎ (insn ≡ Sysretq) → abs_step cfg key s insn next ≡ Ok (succ, out)
     → PassesReturn (moment_of cfg key s next) insn × (succ ≡ Returns)
 
 -- A return is next: the image spells it, in text that may be executed (C5), its other conditions hold, and the state
