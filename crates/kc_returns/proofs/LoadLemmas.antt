@@ -73,10 +73,10 @@ sysret_has i apart =
 -- ---- who was interrupted
 
 -- what is due, of the kernel or of the user
-pub IsKernels : Description → Key → Activation → Type 0
+unfoldable pub IsKernels : Description → Key → Activation → Type 0
 IsKernels cfg key a = (key.kernel ≡ true) × (a.due ≡ a.saved) × IsKernelCpu cfg a.due
 
-pub IsUsers : Description → Key → Activation → Type 0
+unfoldable pub IsUsers : Description → Key → Activation → Type 0
 IsUsers cfg key a = (key.kernel ≡ false) × IsAdmitted cfg a.due × IsEdited a.saved a.due
 
 by_mode : (cfg : Description) (key : Key) (a : Activation) (mode : Mode) → a.saved.mode ≡ mode

@@ -3,4 +3,4 @@
 
 mod laws;
 
-pub use laws::loads;
+pub use laws::{loads, returned};
