@@ -1,6 +1,7 @@
 -- The rows of POP and RET: the word at RSP is loaded, RSP moves up by 8, and then the word is written. An address that
 -- uses RSP takes it after the move, and POP RSP leaves the word.
-use Rattle.std.proofs.Common.{◌≡◌, ℕ, ◌^◌, ◌<◌, ◌&&◌, inl, Bool, true, false, is_some, List, [], ◌∷◌, Option, Some, None, set, pos, slice_index, refl, sym, ap, subst, arith}
+use Rattle.std.proofs.Common.{◌≡◌, ℕ, inl, true, is_some, List, [], ◌∷◌, Option, Some, None}
+use Rattle.std.proofs.Common.{set, slice_index, pos, refl, subst, arith}
 use Rattle.std.proofs.lemmas.Bool.{false≢true, and_parts}
 use Rattle.std.proofs.lemmas.Int.{ints}
 use Rattle.kc_words.specs.declared.width.Width.TheVariants.{Quad}
@@ -21,7 +22,6 @@ use Rattle.kc_value.specs.AbsValue.{AbsValue}
 use Rattle.kc_value.specs.declared.env.ValueEnv.{ValueEnv}
 use Rattle.kc_state.specs.AbsEffect as known
 use Rattle.kc_state.specs.AbsEffect.{abs_row, jump_or_fall}
-use Rattle.kc_state.specs.Location.{location_of}
 use Rattle.kc_state.specs.Operand.{AbsMoment, linear}
 use Rattle.kc_state.specs.Shift.{shifted}
 use Rattle.kc_state.specs.declared.key.Key.{Key}

@@ -1,12 +1,12 @@
 -- What is after an instruction that changes registers, makes one store at most and goes on anywhere; and the rows of
 -- pushes. Where RSP after a push is an offset, it lies in the stack of the key, since the push isn't stopped by a guard.
-use Rattle.std.proofs.Common.{◌≡◌, ℕ, ◌^◌, ◌<◌, ◌&&◌, Bool, true, false, List, [], ◌∷◌, All, Option, Some, None, set, pos, neg_ℤ, slice_index, refl, sym, ◌∙◌, subst, arith}
+use Rattle.std.proofs.Common.{◌≡◌, ℕ, ◌^◌, ◌<◌, ◌&&◌, Bool, true, false, List, [], ◌∷◌, All, Option, Some, None}
+use Rattle.std.proofs.Common.{set, slice_index, pos, neg_ℤ, refl, sym, ◌∙◌, subst, arith}
 use Rattle.std.specs.Prelude.{IfSome, length}
 use Rattle.std.proofs.lemmas.Bool.{and_parts}
 use Rattle.std.proofs.lemmas.List.Elements.{All-from_recursion}
 use Rattle.std.proofs.lemmas.Nat.{pow_below}
 use Rattle.kc_words.specs.declared.width.Width.TheVariants.{Quad}
-use Rattle.kc_insn.specs.declared.insn.Insn.{Insn}
 use Rattle.kc_insn.specs.declared.insn.Insn.TheVariants.{Push, Pushfq, Call}
 use Rattle.kc_insn.specs.declared.insn.Source.{Source}
 use Rattle.kc_insn.specs.declared.insn.Source.TheVariants as source
@@ -18,7 +18,6 @@ use Rattle.kc_regions.specs.Region.{stacks_of}
 use Rattle.kc_regions.specs.declared.touch.Touch.TheVariants.{Read, Write}
 use Rattle.kc_regions.proofs.LayoutLemmas.{laid}
 use Rattle.kc_cpu.specs.declared.cpu.Mode.{Mode}
-use Rattle.kc_cpu.specs.declared.cpu.Mode.TheVariants.{Inside}
 use Rattle.kc_exec.specs.Change.{goes, pushed_rsp, with_pushed_rsp, push_of}
 use Rattle.kc_exec.specs.Effect.{row, called_mode, kept_registers}
 use Rattle.kc_exec.specs.Execution.{access_of}
@@ -28,9 +27,8 @@ use Rattle.kc_exec.specs.declared.access.Access.{Access}
 use Rattle.kc_exec.specs.declared.access.Write.{Write as Written}
 use Rattle.kc_exec.specs.declared.state.Activation.{Activation}
 use Rattle.kc_value.specs.AbsValue.{AbsValue}
-use Rattle.kc_value.specs.Value.{IsValidValue, all_places}
+use Rattle.kc_value.specs.Value.{IsValidValue}
 use Rattle.kc_value.specs.declared.env.ValueEnv.{ValueEnv}
-use Rattle.kc_state.specs.Access.{may}
 use Rattle.kc_state.specs.AbsEffect as known
 use Rattle.kc_state.specs.AbsEffect.{AbsStore, abs_row, call_or_jump, on_stack, only_stack, pushed}
 use Rattle.kc_state.specs.Conditions.{may_at}
@@ -276,9 +274,9 @@ module _ (key : Key) (chain : List Activation) (s : AbsState) (m : Moment) (K : 
     back = K.next;
     flags = K.typed.flags;
     kept = (
-        refl,
-        All-from_recursion IsWord (kept_registers m.cpu)
-            (word 3, (word 5, (word 12, (word 13, (word 14, (word 15, tt)))))),
+      refl,
+      All-from_recursion IsWord (kept_registers m.cpu)
+          (word 3, (word 5, (word 12, (word 13, (word 14, (word 15, tt)))))),
     );
   }
     where

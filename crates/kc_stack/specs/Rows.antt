@@ -37,7 +37,7 @@ FitsSource (source.Reg r) = Unit {0}
 FitsSource (source.Mem a) = FitsSigned w32 a.disp
 FitsSource (source.Imm z) = FitsSigned w64 z
 
--- so does each field: bit numbers are bytes, and targets are words
+-- each field fits its type: bit numbers are bytes, and targets are words
 abbrev pub FitsTypes : Insn → Type 0
 FitsTypes (Mov w dest src) = FitsSource (source_of dest) × FitsSource src
 FitsTypes (Lea w dest src) = FitsSigned w32 src.disp
