@@ -69,8 +69,8 @@ module _ (key : Key) (chain : List Activation) (s : AbsState) (m : Moment) (K : 
       let rsp = register_is key chain s m K 4 in
       let there : slice_index m.cpu.regs 4 ≡ stack_address m 0 = omega (arith, rsp.fits) in
       subst (λ a. IsFor env v (read m.mem a 8)) there
-      (load_is cfg K.context.valid key chain K.context.fits K.context.typed before.cpu s.slots m.cpu m.latch m.mem m.next
-      (seen key chain s m K M) Quad (value_at s.regs 4) (slice_index m.cpu.regs 4) rsp)
+      (load_is cfg K.context.valid key chain K.context.fits K.context.typed before.cpu s.slots m.cpu m.latch m.mem
+      m.next (seen key chain s m K M) Quad (value_at s.regs 4) (slice_index m.cpu.regs 4) rsp)
 
   abbrev up : AbsValue
   up = shifted cfg key (value_at s.regs 4) (pos 8)

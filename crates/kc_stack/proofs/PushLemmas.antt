@@ -1,5 +1,5 @@
 -- What is after an instruction that changes registers, makes one store at most and goes on anywhere; and the rows of
--- pushes. Where RSP after a push is an offset, it lies in the stack of the key, since the push isn't stopped by a guard.
+-- pushes. Where RSP after a push is an offset, it lies in the stack of the key, since no guard stops the push.
 use Rattle.std.proofs.Common.{◌≡◌, ℕ, ◌^◌, ◌<◌, ◌&&◌, Bool, true, false, List, [], ◌∷◌, All, Option, Some, None}
 use Rattle.std.proofs.Common.{set, slice_index, pos, neg_ℤ, refl, sym, ◌∙◌, subst, arith}
 use Rattle.std.specs.Prelude.{IfSome, length}
@@ -158,8 +158,9 @@ module _ (key : Key) (chain : List Activation) (s : AbsState) (m : Moment) (K : 
       record {
         valid = shifted_valid cfg K.context.valid key (value_at s.regs 4) (neg_ℤ (pos 8)) rsp.valid;
         fits = omega arith;
-        stands = shift_stands cfg K.context.valid key chain K.context.fits (value_at s.regs 4) (slice_index m.cpu.regs 4)
-            (neg_ℤ (pos 8)) rsp.valid rsp.fits rsp.stands (push_move cfg K.context.valid key chain K.context.fits);
+        stands = shift_stands cfg K.context.valid key chain K.context.fits (value_at s.regs 4)
+            (slice_index m.cpu.regs 4) (neg_ℤ (pos 8)) rsp.valid rsp.fits rsp.stands
+            (push_move cfg K.context.valid key chain K.context.fits);
       }
 
   -- the push may be made, and no guard stops it
@@ -202,8 +203,8 @@ module _ (key : Key) (chain : List Activation) (s : AbsState) (m : Moment) (K : 
       (goes m target (record (with_pushed_rsp m) { mode = mode }) reads (push_of m n))
   push_after succ target running v n reads may_push is fits typed point =
       let top = pushed_is may_push in
-      after succ target running (set s.regs 4 (pushed before)) (set m.cpu.regs 4 (pushed_rsp m)) (known.push_of before v)
-      reads (push_of m n)
+      after succ target running (set s.regs 4 (pushed before)) (set m.cpu.regs 4 (pushed_rsp m))
+      (known.push_of before v) reads (push_of m n)
       (set_register cfg K.context.valid key chain K.context.fits K.context.typed s.regs m.cpu.regs 4 (pushed_rsp m)
       (pushed before) seen.regs top.valid top.fits top.stands) fits typed point (push_store v n is)
 

@@ -1,5 +1,5 @@
--- Before and after any instruction but IRETQ and SYSRETQ, in one form: what the analysis knows stands for the processor,
--- its store is the write, and kernel code goes on where it says. This project's own.
+-- Before and after any instruction but IRETQ and SYSRETQ, in one form: what the analysis knows stands for the
+-- processor, its store is the write, and kernel code goes on where it says. This project's own.
 use Rattle.std.specs.Prelude.{◌≡◌, ℕ, ◌^◌, ◌<◌, true, ◌⊎◌, List, FitsSigned}
 use Rattle.std.specs.Int.{w32, w64}
 use Rattle.kc_insn.specs.Encodable.{is_encodable}
