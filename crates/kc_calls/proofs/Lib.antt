@@ -1,3 +1,5 @@
 pub mod InsideLemmas
 pub mod LeaveLemmas
+pub mod WriteLemmas
+pub mod CallerLemmas
 pub mod LawLemmas
