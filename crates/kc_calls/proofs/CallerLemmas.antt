@@ -102,15 +102,15 @@ pub record IsRoomAt (cfg : Description) (chain : List Activation) (at depth : �
   pub room : region.span.from + depth ≤ at + 4096
   pub live : (x : ℕ) → IsLive cfg chain x → stack_of cfg.regions x ≡ Some stack → at ≤ x
 
+-- at an offset the address lies in the key's stack
+abbrev pub LiesInKeyStack : Description → Key → Location → ℕ → Type 0
+LiesInKeyStack cfg key (Number a) at = Unit {0}
+LiesInKeyStack cfg key (Relative k) at = stack_of cfg.regions at ≡ key.stack
+
 module _ (cfg : Description) (valid : IsValid cfg) (key : Key) (floors : Floors) (base : ℕ) (chain : List Activation)
     (based : IsBaseOf cfg key.base key.syscall key.stack base) (stand : FloorsStand cfg floors base chain)
     (m : AbsMoment) (of_cfg : m.d ≡ cfg) (of_key : m.key ≡ key) where
-  -- at an offset the address lies in the key's stack
-  abbrev pub LiesInKeyStack : Location → ℕ → Type 0
-  LiesInKeyStack (Number a) at = Unit {0}
-  LiesInKeyStack (Relative k) at = stack_of cfg.regions at ≡ key.stack
-
-  pub room_at : (h : Handler) (l : Location) (at : ℕ) → IsAt cfg key base at l → LiesInKeyStack l at
+  pub room_at : (h : Handler) (l : Location) (at : ℕ) → IsAt cfg key base at l → LiesInKeyStack cfg key l at
       → clear cfg key floors l 0 ≡ true → has_room m h l ≡ true → IsRoomAt cfg chain at h.stack
   room_at h (Number a) at placed lies free well =
       let there : has_room_in a h (frame_of m.key h) (stack_region cfg (stack_of cfg.regions a)) ≡ true =

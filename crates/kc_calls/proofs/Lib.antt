@@ -2,4 +2,5 @@ pub mod InsideLemmas
 pub mod LeaveLemmas
 pub mod WriteLemmas
 pub mod CallerLemmas
+pub mod EnterLemmas
 pub mod LawLemmas
