@@ -191,12 +191,13 @@ module _ (cfg : Description) (valid : IsValid cfg) (key : Key) (chain : List Act
 
     -- ---- slots
 
-    module _ (mem : Bytes) (next : ℕ) (fits : next < 2 ^ 64) where
+    module _ (next : ℕ) (fits : next < 2 ^ 64) where
       abbrev pub slots : List AbsValue
       slots = redone (stored cfg key l 8 (number_value cfg next)) 0 s.slots
 
-      pub slots_after : SlotsStand cfg key env s.slots mem → SlotsStand cfg key env slots (write mem pushed_word 8 next)
-      slots_after before =
+      pub slots_after : (mem : Bytes) → SlotsStand cfg key env s.slots mem
+          → SlotsStand cfg key env slots (write mem pushed_word 8 next)
+      slots_after mem before =
           subst (λ z. SlotsStand cfg key env slots (write mem z 8 next)) pushed_at.1
           (store_stands cfg valid key chain F typed s.map l 8 (number_value cfg next) next mem pushed_at.0 (omega arith)
           permitted fits (λ e. number_stands cfg valid env refl next fits) s.slots is.slots.1 before)
