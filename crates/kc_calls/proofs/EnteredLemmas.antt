@@ -38,6 +38,8 @@ use Rattle.kc_exec.specs.Moment.{Moment}
 use Rattle.kc_exec.specs.declared.access.Access.{Access}
 use Rattle.kc_exec.specs.declared.state.Activation.{Activation}
 use Rattle.kc_exec.specs.declared.state.State.{State}
+use Rattle.kc_events.specs.Attempt.{executed}
+use Rattle.kc_events.specs.Run as run
 use Rattle.kc_value.specs.AbsValue.{AbsValue}
 use Rattle.kc_value.specs.Value.{Represents}
 use Rattle.kc_value.specs.declared.env.ValueEnv.{ValueEnv}
@@ -65,7 +67,7 @@ use Rattle.kc_describes.proofs.FrameLemmas.{code_file}
 use Rattle.kc_describes.proofs.OperandLemmas.{AreRegisters, word_at}
 use Rattle.kc_describes.proofs.TwiceLemmas.{called_again}
 use Rattle.kc_system.specs.System.{known_moment}
-use Rattle.kc_calls.specs.Entered.{moment_at, after_insn, abs_after, IsCalling, CallIsCovered}
+use Rattle.kc_calls.specs.Entered.{moment_at, IsCalling, CallIsCovered}
 use Rattle.kc_calls.specs.Laws.{body_of, code_at}
 use Rattle.kc_calls.proofs.CallerLemmas.{handler_at, entry_fits, kernel_map, IsRoomAt, room_at}
 use Rattle.kc_calls.proofs.EnterLemmas as push
@@ -127,8 +129,9 @@ module _ (cfg : Description) (valid : IsValid cfg) (key : Key) (at len target nu
   cpu = record (with_pushed_rsp m) { mode = Inside call; rip = target }
 
   abbrev after : State
-  after = after_insn S (machine_goes m target (record (with_pushed_rsp m) { mode = Inside call }) []
-      (write_of_push m m.next))
+  after =
+      run.after S (executed S len (machine_goes m target (record (with_pushed_rsp m) { mode = Inside call }) []
+      (write_of_push m m.next)))
 
   -- what is known after the push, where RSP points to this location
   abbrev stored_at : Option Location → AbsState
@@ -290,8 +293,8 @@ call_covered cfg key at len target number s S valid is C =
     C.unguarded in
     let known = applied cfg key s (goes before (Calls number) (with_pushed_value before)
     (push_of before (number_value cfg m.next))) in
-    let inside = λ (o : Option ℕ). after_insn S
-    (machine_goes m target (record (with_pushed_rsp m) { mode = called_mode m o }) [] (write_of_push m m.next)) in
+    let inside = λ (o : Option ℕ). run.after S (executed S len
+    (machine_goes m target (record (with_pushed_rsp m) { mode = called_mode m o }) [] (write_of_push m m.next))) in
     subst (λ (o : Option ℕ). Describes cfg key (body_of at) (Some (CallInsn target, len))
     (with_call cfg key known (call_or_jump target o)) (inside o)) (sym C.entry)
     (subst (λ (o : Option Handler). Describes cfg key (body_of at) (Some (CallInsn target, len))

@@ -6,10 +6,11 @@ use Rattle.kc_regions.specs.Description.{Description}
 use Rattle.kc_regions.specs.Lookup.{handler_of}
 use Rattle.kc_regions.specs.Valid.{IsValid}
 use Rattle.kc_exec.specs.Effect.{row}
-use Rattle.kc_exec.specs.Execution.{moment, with_write}
+use Rattle.kc_exec.specs.Execution.{moment}
 use Rattle.kc_exec.specs.Moment.{Moment}
-use Rattle.kc_exec.specs.declared.executed.Executed.{Executed}
 use Rattle.kc_exec.specs.declared.state.State.{State}
+use Rattle.kc_events.specs.Attempt.{executed}
+use Rattle.kc_events.specs.Run.{after}
 use Rattle.kc_state.specs.AbsEffect.{AbsChange, abs_row, applied}
 use Rattle.kc_state.specs.AbsStep.{with_call}
 use Rattle.kc_state.specs.Conditions.{accesses_of, is_permitted, calls_well}
@@ -25,13 +26,9 @@ use Rattle.kc_calls.specs.Laws.{body_of, code_at}
 abbrev pub moment_at : Description → State → ℕ → Moment
 moment_at cfg S len = moment cfg S.cpu S.latch S.mem.bytes len
 
--- the machine after an instruction that isn't a return, where nothing stops or breaks it
-abbrev pub after_insn : State → Executed → State
-after_insn S done = record S {
-  cpu = done.cpu;
-  latch = done.latch;
-  mem = record S.mem { bytes = with_write done.write S.mem.bytes };
-}
+-- the machine after the instruction, where nothing stops or breaks it
+abbrev pub after_insn : Description → State → ℕ → Insn → State
+after_insn cfg S len insn = after S (executed S len (row (moment_at cfg S len) insn))
 
 -- the state with the change, and where that is a handler's call with the handler's changes too
 abbrev pub abs_after : Description → Key → AbsState → AbsChange → AbsState
@@ -55,4 +52,4 @@ CallIsCovered = (cfg : Description) (key : Key) (at len target handler : ℕ) (s
     → IsState s → IsCalling cfg key at len target handler s S
     → Describes cfg key (body_of at) (Some (CallInsn target, len))
     (abs_after cfg key s (abs_row (known_moment key s (moment_at cfg S len)) (CallInsn target)))
-    (after_insn S (row (moment_at cfg S len) (CallInsn target)))
+    (after_insn cfg S len (CallInsn target))
