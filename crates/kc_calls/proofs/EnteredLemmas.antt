@@ -287,7 +287,7 @@ call_covered cfg key at len target number s S valid is C =
     let q = and_parts (may_at before l 8 Write) true p.0 in
     let well : calls_well_at before s.floors h.0 l ≡ true =
     subst (λ (o : Option Handler). calls_handler before s.floors o ≡ true) h.1
-    (subst (λ o. calls_handler before s.floors (called_handler cfg o) ≡ true) C.entry C.well) in
+    (subst (λ o. calls_handler before s.floors (called_handler cfg o) ≡ true) C.entry C.calls) in
     let write : Access = access_of (record { at = pushed_rsp m; width = Quad; value = m.next; gs = false }) in
     let unguarded : All (λ a. (x : ℕ) → x < 2 ^ 64 → InBytes x a.at a.size → in_guard cfg.regions x ≡ false) (write ∷ []) =
     C.unguarded in
