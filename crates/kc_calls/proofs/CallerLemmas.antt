@@ -1,7 +1,7 @@
 -- What C10 says of the handler's stack. The handler stands in the list, and its entry is a word; the base and the CR3
 -- are the kernel's; the pushed return address lies in a stack with the handler's room; and below it no byte of that
 -- stack is live, since 0 bytes are clear there.
-use Rattle.std.proofs.Common.{◌≡◌, ℕ, ◌+◌, ◌^◌, ◌<◌, ◌≤◌, ◌&&◌, not, Bool, true, false, is_some, nat_le, List, [], ◌∷◌, All, Option, Some, None, slice_get, get_or, inl, inr, refl, sym, ap, ◌∙◌, subst, arith}
+use Rattle.std.proofs.Common.{◌≡◌, ℕ, ◌+◌, ◌^◌, ◌<◌, ◌≤◌, ◌&&◌, not, true, is_some, nat_le, List, [], ◌∷◌, All, Option, Some, None, slice_get, get_or, inl, inr, refl, sym, ap, ◌∙◌, subst, arith}
 use Rattle.std.specs.Prelude.{nat_eq}
 use Rattle.std.proofs.lemmas.Bool.{false≢true, and_parts, eqb-true, leb-true}
 use Rattle.std.proofs.lemmas.List.Elements.{All-get_or}

@@ -1,15 +1,13 @@
 -- The CALL of a handler: first the push, then the call's changes. RSP after the push stands for the return address's
 -- place, which lies in a stack with the handler's room; the slots stand for memory after the push, by the law of stores;
 -- the call's changes keep all that stands, and made again they change nothing.
-use Rattle.std.proofs.Common.{◌≡◌, ◌≢◌, ℕ, suc, ◌+◌, ◌-◌, ◌^◌, ◌<◌, ◌≤◌, ◌&&◌, ◌/◌, true, false, List, [], ◌∷◌, length, set, All, Option, Some, None, slice_get, slice_index, get_or-set_same, get_or-set_other, pos, neg_ℤ, inl, inr, refl, sym, ap, ◌∙◌, subst, arith}
+use Rattle.std.proofs.Common.{◌≡◌, ◌≢◌, ℕ, suc, ◌+◌, ◌-◌, ◌^◌, ◌<◌, true, false, List, [], ◌∷◌, length, set, All, Option, Some, None, slice_index, get_or-set_same, get_or-set_other, pos, neg_ℤ, refl, sym, ap, ◌∙◌, subst, arith}
 use Rattle.std.specs.Prelude.{IfSome}
-use Rattle.std.specs.Int.{w64, cast_unsigned}
 use Rattle.std.proofs.lemmas.Bool.{cond_both}
-use Rattle.std.proofs.lemmas.List.{length-set}
 use Rattle.std.proofs.lemmas.List.Elements.{All-nil, All-cons, All-head, All-tail}
 use Rattle.std.proofs.lemmas.Nat.{pow_below}
 use Rattle.kc_bits.specs.Bits.{word}
-use Rattle.kc_frames.specs.Slots.{AreSlots, slot_count, redone}
+use Rattle.kc_frames.specs.Slots.{AreSlots, redone}
 use Rattle.kc_regions.specs.Description.{Description}
 use Rattle.kc_regions.specs.Layout.{InBytes}
 use Rattle.kc_regions.specs.Permission.{in_guard}
@@ -19,7 +17,7 @@ use Rattle.kc_regions.specs.declared.touch.Touch.TheVariants.{Write}
 use Rattle.kc_regions.proofs.LayoutLemmas.{laid}
 use Rattle.kc_rules.proofs.AnswerLemmas.{some_is}
 use Rattle.kc_cpu.specs.declared.cpu.Cpu.{Cpu}
-use Rattle.kc_mem.specs.Memory.{Bytes, AreBytes, write}
+use Rattle.kc_mem.specs.Memory.{Bytes, write}
 use Rattle.kc_exec.specs.declared.state.Activation.{Activation}
 use Rattle.kc_value.specs.AbsValue.{AbsValue}
 use Rattle.kc_value.specs.Value.{IsValidValue, Represents, value_top}
@@ -39,7 +37,7 @@ use Rattle.kc_state.specs.declared.state.AbsState.{AbsState}
 use Rattle.kc_describes.specs.Chain.{newest_of, user_gs_of, env_of}
 use Rattle.kc_describes.specs.Describes.{AreBaseSlotsTop}
 use Rattle.kc_describes.specs.Fits.{ChainFits}
-use Rattle.kc_describes.specs.Places.{address_of, SlotsStand}
+use Rattle.kc_describes.specs.Places.{SlotsStand}
 use Rattle.kc_describes.specs.Row.{value_at, RegistersStand}
 use Rattle.kc_describes.specs.Widths.{IsCpu, IsActivation}
 use Rattle.kc_describes.proofs.LocationLemmas.{IsAt, located}

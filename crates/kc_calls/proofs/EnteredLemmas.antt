@@ -1,14 +1,11 @@
 -- The machine inside the handler. The state after the push is a state, so the changes of the call keep what stands and
 -- are stable; the chain and its floors are as they were; the saved registers, RSP and RFLAGS are those of the call.
 -- Then the cases of the definitions: which handler is called, and where RSP points.
-use Rattle.std.proofs.Common.{◌≡◌, ◌≢◌, ℕ, ◌+◌, ◌^◌, ◌<◌, ◌≤◌, ◌&&◌, true, false, List, [], ◌∷◌, length, set, All, Option, Some, None, IsSomeAnd, slice_get, slice_index, inl, inr, refl, sym, ap, ◌∙◌, subst, arith}
+use Rattle.std.proofs.Common.{◌≡◌, ◌≢◌, ℕ, ◌+◌, ◌^◌, ◌<◌, ◌&&◌, true, false, [], ◌∷◌, set, All, Option, Some, None, IsSomeAnd, slice_get, slice_index, inr, refl, sym, ap, ◌∙◌, subst, arith}
 use Rattle.std.proofs.lemmas.Bool.{false≢true, and_parts}
-use Rattle.std.proofs.lemmas.List.{length-set}
-use Rattle.std.proofs.lemmas.List.Elements.{All-nil, All-cons, All-set}
+use Rattle.std.proofs.lemmas.List.Elements.{All-nil, All-cons}
 use Rattle.kc_bits.specs.Bits.{word}
-use Rattle.kc_frames.specs.Slots.{slot_count}
 use Rattle.kc_words.specs.declared.width.Width.TheVariants.{Quad}
-use Rattle.kc_insn.specs.declared.insn.Insn.{Insn}
 use Rattle.kc_insn.specs.declared.insn.Insn.TheVariants.{Call as CallInsn}
 use Rattle.kc_regions.specs.Description.{Description}
 use Rattle.kc_regions.specs.Layout.{InBytes}
@@ -18,7 +15,6 @@ use Rattle.kc_regions.specs.Region.{stack_of}
 use Rattle.kc_regions.specs.Valid.{IsValid}
 use Rattle.kc_regions.specs.declared.entry.Handler.{Handler}
 use Rattle.kc_regions.specs.declared.touch.Touch.TheVariants.{Write}
-use Rattle.kc_space.specs.Latches.{TriStands}
 use Rattle.kc_space.specs.Spaces.{is_same_who, is_same_map}
 use Rattle.kc_space.specs.declared.map.MapState.{MapState}
 use Rattle.kc_space.specs.declared.map.MapState.TheVariants as map
@@ -26,24 +22,20 @@ use Rattle.kc_space.specs.declared.gs.GsPair.{GsPair}
 use Rattle.kc_space.specs.declared.latches.Latches.{Latches}
 use Rattle.kc_space.specs.declared.tri.Tri.TheVariants.{No}
 use Rattle.kc_space.specs.declared.who.Who.TheVariants as who
-use Rattle.kc_frames.specs.declared.floors.Floors.{Floors}
 use Rattle.kc_cpu.specs.declared.cpu.Call.{Call}
 use Rattle.kc_cpu.specs.declared.cpu.Cpu.{Cpu}
 use Rattle.kc_cpu.specs.declared.cpu.Mode.TheVariants.{Inside}
-use Rattle.kc_mem.specs.Memory.{write}
 use Rattle.kc_exec.specs.Change.{pushed_rsp, with_pushed_rsp, push_of as write_of_push, goes as machine_goes}
 use Rattle.kc_exec.specs.Effect.{kept_registers, called_mode, row}
 use Rattle.kc_exec.specs.Execution.{access_of}
 use Rattle.kc_exec.specs.Moment.{Moment}
 use Rattle.kc_exec.specs.declared.access.Access.{Access}
-use Rattle.kc_exec.specs.declared.state.Activation.{Activation}
 use Rattle.kc_exec.specs.declared.state.State.{State}
 use Rattle.kc_events.specs.Attempt.{executed}
 use Rattle.kc_events.specs.Run as run
-use Rattle.kc_value.specs.AbsValue.{AbsValue}
 use Rattle.kc_value.specs.Value.{Represents}
 use Rattle.kc_value.specs.declared.env.ValueEnv.{ValueEnv}
-use Rattle.kc_state.specs.AbsEffect.{AbsChange, abs_row, applied, call_or_jump, goes, push_of, pushed, with_pushed_rsp as with_pushed_value, with_store_at}
+use Rattle.kc_state.specs.AbsEffect.{abs_row, applied, call_or_jump, goes, push_of, pushed, with_pushed_rsp as with_pushed_value, with_store_at}
 use Rattle.kc_state.specs.AbsStep.{entered, with_call}
 use Rattle.kc_state.specs.Access.{clear}
 use Rattle.kc_state.specs.Calls.{called, called_handler}
@@ -67,7 +59,7 @@ use Rattle.kc_describes.proofs.FrameLemmas.{code_file}
 use Rattle.kc_describes.proofs.OperandLemmas.{AreRegisters, word_at}
 use Rattle.kc_describes.proofs.TwiceLemmas.{called_again}
 use Rattle.kc_system.specs.System.{known_moment}
-use Rattle.kc_calls.specs.Entered.{moment_at, IsCalling, CallIsCovered}
+use Rattle.kc_calls.specs.Entered.{moment_at, CallIsCovered}
 use Rattle.kc_calls.specs.Laws.{body_of, code_at}
 use Rattle.kc_calls.proofs.CallerLemmas.{handler_at, entry_fits, kernel_map, IsRoomAt, room_at}
 use Rattle.kc_calls.proofs.EnterLemmas as push
@@ -262,8 +254,11 @@ module _ (cfg : Description) (valid : IsValid cfg) (key : Key) (at len target nu
       bare = keeps.bare (push.bare_after cfg valid key S.chain D.chain D.typed.chain s is S.cpu D.typed.cpu file l there
           permitted unguarded m.next next_fits D.bare);
       kernel = record { cs = D.kernel.cs; ss = D.kernel.ss; flags = D.kernel.flags };
-      point = ((entry, ap (λ z. word (z + len)) D.point.1), subst (λ (o : Option Handler). IsSomeAnd o
-          (IsHandlerRunning cfg key out S.chain cpu call)) (sym contract) runs);
+      point = (
+        (entry, ap (λ z. word (z + len)) D.point.1),
+        subst (λ (o : Option Handler). IsSomeAnd o
+            (IsHandlerRunning cfg key out S.chain cpu call)) (sym contract) runs,
+      );
     }
 
   -- by where RSP points

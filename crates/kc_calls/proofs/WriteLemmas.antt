@@ -1,5 +1,5 @@
 -- A write leaves bytes: each byte that is put is below 256, and the map drops a 0.
-use Rattle.std.proofs.Common.{◌≡◌, ℕ, zero, suc, ◌/◌, ◌%◌, ◌<◌, cond, eqb, Bool, true, false, Option, Some, None, IfSome, refl, sym, subst, inl, inr, arith}
+use Rattle.std.proofs.Common.{◌≡◌, ℕ, zero, suc, ◌/◌, ◌%◌, ◌<◌, cond, eqb, Bool, true, false, Option, Some, None, IfSome, refl, sym, subst, arith}
 use Rattle.std.specs.FinMap.{get}
 use Rattle.std.proofs.lemmas.Bool.{eqb-false}
 use Rattle.kc_mem.specs.Memory.{Bytes, AreBytes, put, next, write}

@@ -1,6 +1,6 @@
 -- What the CALL of a C handler leads to where a state describes the machine before it, a law. This project's own. The
 -- machine's CALL: Intel SDM vol. 2, "CALL".
-use Rattle.std.specs.Prelude.{◌≡◌, ℕ, true, Option, Some}
+use Rattle.std.specs.Prelude.{◌≡◌, ℕ, true, Some}
 use Rattle.kc_insn.specs.declared.insn.Insn.{Insn}
 use Rattle.kc_insn.specs.declared.insn.Insn.TheVariants.{Call as CallInsn}
 use Rattle.kc_regions.specs.Description.{Description}
