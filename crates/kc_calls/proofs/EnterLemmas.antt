@@ -1,6 +1,5 @@
--- The CALL of a handler: first the push, then the call's changes. RSP after the push stands for the return address's
--- place, which lies in a stack with the handler's room; the slots stand for memory after the push, by the law of stores;
--- the call's changes keep all that stands, and made again they change nothing.
+-- The push of a call: RSP after it is valid and stands for where the return address lies, which at an offset is the key's
+-- stack; the other registers stay; and the slots stand for memory with the return address in it, as after each store.
 use Rattle.std.proofs.Common.{◌≡◌, ◌≢◌, ℕ, suc, ◌+◌, ◌-◌, ◌^◌, ◌<◌, true, false, List, [], ◌∷◌, length, set, All, Option, Some, None, slice_index, get_or-set_same, get_or-set_other, pos, neg_ℤ, refl, sym, ap, ◌∙◌, subst, arith}
 use Rattle.std.specs.Prelude.{IfSome}
 use Rattle.std.proofs.lemmas.Bool.{cond_both}
@@ -129,15 +128,15 @@ module _ (cfg : Description) (valid : IsValid cfg) (key : Key) (chain : List Act
   pushed_valid =
       on_stack_valid key moved (location_of key moved) (places_fit cfg valid key.stack F.fits.rules.stack) moved_valid
 
-  module _ (l : Location) (there : location_of key pushed_value ≡ Some l) (permitted : may cfg key s.map l 8 Write ≡ true)
-      (unguarded : IsOpenPush) where
+  module _ (l : Location) (there : location_of key pushed_value ≡ Some l)
+      (permitted : may cfg key s.map l 8 Write ≡ true) (unguarded : IsOpenPush) where
     moved_there : location_of key moved ≡ Some l
     moved_there = sym (stacked key moved (location_of key moved)) ∙ there
 
     pub pushed_at : IsAt cfg key (newest_of chain).base pushed_word l
     pushed_at =
-        located cfg key (user_gs_of chain) (newest_of chain) F.fits env refl pushed_word (omega arith) moved l moved_valid
-        moved_stands moved_there
+        located cfg key (user_gs_of chain) (newest_of chain) F.fits env refl pushed_word (omega arith) moved l
+        moved_valid moved_stands moved_there
 
     pushed_stands : Represents pushed_value env pushed_word
     pushed_stands =
@@ -172,8 +171,8 @@ module _ (cfg : Description) (valid : IsValid cfg) (key : Key) (chain : List Act
 
     pub registers_after : AreRegisters env values regs
     registers_after =
-        set_register cfg valid key chain F typed s.regs cpu.regs 4 pushed_word pushed_value registers_before pushed_valid
-        (omega arith) pushed_stands
+        set_register cfg valid key chain F typed s.regs cpu.regs 4 pushed_word pushed_value registers_before
+        pushed_valid (omega arith) pushed_stands
 
     pub rsp_set : slice_index regs 4 ≡ pushed_word
     rsp_set = get_or-set_same cpu.regs 4 pushed_word 0 (omega (arith, ok.regs.0))

@@ -1,7 +1,7 @@
 -- The machine inside the handler. The state after the push is a state, so the changes of the call keep what stands and
 -- are stable; the chain and its floors are as they were; the saved registers, RSP and RFLAGS are those of the call.
 -- Then the cases of the definitions: which handler is called, and where RSP points.
-use Rattle.std.proofs.Common.{◌≡◌, ◌≢◌, ℕ, ◌+◌, ◌^◌, ◌<◌, ◌&&◌, true, false, [], ◌∷◌, set, All, Option, Some, None, IsSomeAnd, slice_get, slice_index, inr, refl, sym, ap, ◌∙◌, subst, arith}
+use Rattle.std.proofs.Common.{◌≡◌, ◌≢◌, ℕ, ◌+◌, ◌^◌, ◌<◌, ◌&&◌, true, false, List, [], ◌∷◌, set, All, Option, Some, None, IsSomeAnd, slice_get, slice_index, inr, refl, sym, ap, ◌∙◌, subst, arith}
 use Rattle.std.proofs.lemmas.Bool.{false≢true, and_parts}
 use Rattle.std.proofs.lemmas.List.Elements.{All-nil, All-cons}
 use Rattle.kc_bits.specs.Bits.{word}
@@ -271,6 +271,10 @@ module _ (cfg : Description) (valid : IsValid cfg) (key : Key) (at len target nu
       described h contract l there permitted well unguarded
   by_location h contract None there permitted well unguarded = absurd (false≢true well)
 
+abbrev AreOpen : Description → List Access → Type 0
+AreOpen cfg accesses =
+    All (λ a. (x : ℕ) → x < 2 ^ 64 → InBytes x a.at a.size → in_guard cfg.regions x ≡ false) accesses
+
 pub call_covered : CallIsCovered
 unfolding abs_row row
 call_covered cfg key at len target number s S valid is C =
@@ -284,8 +288,7 @@ call_covered cfg key at len target number s S valid is C =
     subst (λ (o : Option Handler). calls_handler before s.floors o ≡ true) h.1
     (subst (λ o. calls_handler before s.floors (called_handler cfg o) ≡ true) C.entry C.calls) in
     let write : Access = access_of (record { at = pushed_rsp m; width = Quad; value = m.next; gs = false }) in
-    let unguarded : All (λ a. (x : ℕ) → x < 2 ^ 64 → InBytes x a.at a.size → in_guard cfg.regions x ≡ false) (write ∷ []) =
-    C.unguarded in
+    let unguarded : AreOpen cfg (write ∷ []) = C.unguarded in
     let known = applied cfg key s (goes before (Calls number) (with_pushed_value before)
     (push_of before (number_value cfg m.next))) in
     let inside = λ (o : Option ℕ). run.after S (executed S len
