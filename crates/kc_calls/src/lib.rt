@@ -2,6 +2,8 @@
 //! says after the handler's turns too. Nothing here runs.
 #![tactic(auto)]
 
+mod enter;
 mod leave;
 
+pub use enter::entered;
 pub use leave::left;
