@@ -63,8 +63,8 @@ pub record IsAnswer (cfg : Description) (key : Key) (s : AbsState) (insn : Insn)
     (out : AbsState) : Type 0
   where
     pub passes : PassesAll m s insn
-    pub succ : (abs_row m insn).succ ≡ succ
-    pub out : with_call cfg key (applied cfg key s (abs_row m insn)) (abs_row m insn).succ ≡ out
+    pub leads : (abs_row m insn).succ ≡ succ
+    pub leaves : with_call cfg key (applied cfg key s (abs_row m insn)) (abs_row m insn).succ ≡ out
 
 by_answer : (cfg : Description) (key : Key) (s : AbsState) (insn : Insn) (m : AbsMoment) (succ : Succ) (out : AbsState)
     (r : Result (Unit {0}) Condition) → conditions m s insn (abs_row m insn) ≡ r
@@ -74,8 +74,8 @@ by_answer cfg key s insn m succ out (Ok x) e h =
     let same = ok_is ((abs_row m insn).succ, after) (succ, out) h in
     record {
       passes = passed m s insn x e;
-      succ = ap (λ (p : Succ × AbsState). p.0) same;
-      out = ap (λ (p : Succ × AbsState). p.1) same;
+      leads = ap (λ (p : Succ × AbsState). p.0) same;
+      leaves = ap (λ (p : Succ × AbsState). p.1) same;
     }
 by_answer cfg key s insn m succ out (Err fault) e h = absurd cc
 
