@@ -1,2 +1,3 @@
 pub mod PassLemmas
 pub mod AccessLemmas
+pub mod BreakLemmas
