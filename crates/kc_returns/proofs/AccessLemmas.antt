@@ -1,6 +1,6 @@
 -- The accesses of a return break nothing: the fetch, and of an IRETQ the five words at RSP, which C7 permits at their
 -- abstract places, and the descriptors of the selectors that are due, which C7 permits by their numbers.
-use Rattle.std.proofs.Common.{◌≡◌, ◌≢◌, ℕ, ◌+◌, ◌-◌, ◌*◌, ◌%◌, ◌^◌, ◌<◌, ◌&&◌, ◌||◌, ◌⊎◌, not, if◌then◌else◌, nat_eq, inl, inr, Bool, true, false, List, [], ◌∷◌, ◌++◌, All, Option, Some, None, refl, sym, ap, ◌∙◌, subst, arith}
+use Rattle.std.proofs.Common.{◌≡◌, ℕ, ◌+◌, ◌-◌, ◌%◌, ◌^◌, ◌<◌, ◌&&◌, ◌||◌, not, if◌then◌else◌, nat_eq, inl, inr, Bool, true, false, List, [], ◌∷◌, ◌++◌, All, Option, Some, None, refl, sym, ap, ◌∙◌, subst, arith}
 use Rattle.std.specs.List.{list_all}
 use Rattle.std.proofs.lemmas.Bool.{and_parts, and_from, or_cases, not-true, eqb-true, true≢false, false≢true}
 use Rattle.std.proofs.lemmas.List.Elements.{All-nil, All-cons, All-head, All-append}
@@ -8,7 +8,7 @@ use Rattle.kc_bits.specs.Bits.{word}
 use Rattle.kc_insn.specs.declared.insn.Insn.{Insn}
 use Rattle.kc_insn.specs.declared.insn.Insn.TheVariants.{Iretq, Sysretq}
 use Rattle.kc_regions.specs.Description.{Description}
-use Rattle.kc_regions.specs.Permission.{user_cs64, user_ss, is_cs32, is_user_cs}
+use Rattle.kc_regions.specs.Permission.{user_cs64, user_ss, is_cs32}
 use Rattle.kc_regions.specs.Valid.{IsValid}
 use Rattle.kc_regions.specs.declared.touch.Touch.TheVariants.{Fetch, Read}
 use Rattle.kc_rules.proofs.AnswerLemmas.{some_is}
@@ -18,20 +18,19 @@ use Rattle.kc_space.specs.declared.who.Who.TheVariants as who
 use Rattle.kc_cpu.specs.declared.cpu.Cpu.{Cpu}
 use Rattle.kc_exec.specs.Breaks.{effect}
 use Rattle.kc_exec.specs.Change.{stack_word, stack_read}
-use Rattle.kc_exec.specs.Effect.{row, is_null, descriptor_read, iret_reads}
+use Rattle.kc_exec.specs.Effect.{row, is_null, descriptor_read}
 use Rattle.kc_exec.specs.Execution.{fetch_of, accesses_of}
 use Rattle.kc_exec.specs.Moment.{Moment}
 use Rattle.kc_exec.specs.declared.access.Access.{Access}
-use Rattle.kc_exec.specs.declared.state.Activation.{Activation}
 use Rattle.kc_exec.specs.declared.state.State.{State}
 use Rattle.kc_state.specs.AbsEffect.{abs_row}
 use Rattle.kc_state.specs.Access.{may_bytes}
 use Rattle.kc_state.specs.Conditions as conditions
-use Rattle.kc_state.specs.Conditions.{AbsAccess, is_exact, is_write, clear_at, may_at, may_read_descriptor, may_read_cs32, may_read_descriptors, is_permitted}
+use Rattle.kc_state.specs.Conditions.{AbsAccess, is_exact, is_write, clear_at, may_at, is_permitted}
+use Rattle.kc_state.specs.Conditions.{may_read_descriptor, may_read_cs32, may_read_descriptors}
 use Rattle.kc_state.specs.Operand.{AbsMoment}
 use Rattle.kc_state.specs.State.{IsState}
 use Rattle.kc_state.specs.declared.key.Key.{Key}
-use Rattle.kc_state.specs.declared.location.Location.{Location}
 use Rattle.kc_state.specs.declared.location.Location.TheVariants.{Number}
 use Rattle.kc_state.specs.declared.state.AbsState.{AbsState}
 use Rattle.kc_describes.specs.Chain.{newest_of}
@@ -73,7 +72,9 @@ module _ (before : AbsMoment) (due : Cpu) (has : HasSelectors before.d before.ke
   cs_by false side all =
       let p = and_parts (may_read_cs32 before before.d.cpu.user_cs32) _ all in
       let q = and_parts (may_read_descriptor before (user_cs64 before.d.cpu)) _ p.1 in
-      elim (or_cases (nat_eq due.cs (user_cs64 before.d.cpu)) (is_cs32 before.d.cpu.user_cs32 due.cs) (has.user side).0) [
+      let code = or_cases (nat_eq due.cs (user_cs64 before.d.cpu)) (is_cs32 before.d.cpu.user_cs32 due.cs)
+      (has.user side).0 in
+      elim code [
         | inl is ↦ subst May (sym (eqb-true due.cs (user_cs64 before.d.cpu) is)) q.0
         | inr is ↦ by_cs32 before.d.cpu.user_cs32 due.cs p.0 is
       ]
@@ -151,11 +152,13 @@ module _ (cfg : Description) (valid : IsValid cfg) (key : Key) (at : ℕ) (found
       words =
           stack_read there 0 ∷ stack_read there 1 ∷ stack_read there 2 ∷ stack_read there 3 ∷ stack_read there 4 ∷ []
 
-      words_quiet : list_all (λ a. may_at before a.at a.size a.touch)
-          (conditions.accesses_of before Iretq (abs_row before Iretq).store) ≡ true → All Quiet words
+      abbrev of_iret : List AbsAccess
+      of_iret = conditions.accesses_of before Iretq (abs_row before Iretq).store
+
+      words_quiet : list_all (λ a. may_at before a.at a.size a.touch) of_iret ≡ true → All Quiet words
       unfolding abs_row
       words_quiet permitted =
-          reads_quiet (conditions.accesses_of before Iretq (abs_row before Iretq).store) words
+          reads_quiet of_iret words
           (iret_agrees cfg valid key S.chain D.chain D.typed.chain before.cpu s.slots S.cpu S.latch S.mem.bytes next
           (seen cfg valid key at found s is S D next next_fits)) permitted refl refl
 
@@ -213,11 +216,11 @@ module _ (cfg : Description) (valid : IsValid cfg) (key : Key) (at : ℕ) (found
             (All-append Quiet of_ss [] stack (All-nil Quiet))
 
         -- C7 of an IRETQ
-        pub iret_quiet : is_permitted before Iretq (conditions.accesses_of before Iretq (abs_row before Iretq).store) ≡ true
+        pub iret_quiet : is_permitted before Iretq of_iret ≡ true
             → All Quiet (accesses_of S.cpu len (effect there Iretq))
         unfolding effect row
         iret_quiet permitted =
-            let p = and_parts (list_all (λ a. may_at before a.at a.size a.touch)
-            (conditions.accesses_of before Iretq (abs_row before Iretq).store)) (may_read_descriptors before) permitted in
+            let p = and_parts (list_all (λ a. may_at before a.at a.size a.touch) of_iret)
+            (may_read_descriptors before) permitted in
             All-cons Quiet (fetch_of S.cpu len) (words ++ descriptors) fetched
             (All-append Quiet words descriptors (words_quiet p.0) (descriptors_quiet p.1))

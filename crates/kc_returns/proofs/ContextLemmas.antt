@@ -1,7 +1,7 @@
 -- After a return the processor is the one that is due. Flags and selectors are loaded as they are, the spaces are the
 -- key's, so the interrupted processor's, and by C12 each register of interrupted kernel code still holds its word. The
 -- chain loses its newest activation, which alone can have interrupted the user.
-use Rattle.std.proofs.Common.{◌≡◌, ◌≢◌, ℕ, ◌%◌, ◌^◌, ◌<◌, ◌&&◌, ◌||◌, not, inl, inr, ◌⊎◌, Bool, true, false, List, [], ◌∷◌, ◌++◌, length, get_or, set, All, Option, Some, None, slice_index, get_or-set_same, get_or-set_other, mod-eq_of_lt, refl, sym, ap, ◌∙◌, subst, arith}
+use Rattle.std.proofs.Common.{◌≡◌, ◌≢◌, ℕ, ◌%◌, ◌^◌, ◌<◌, ◌&&◌, not, inl, inr, ◌⊎◌, Bool, true, false, List, [], ◌∷◌, ◌++◌, length, get_or, set, All, Option, Some, slice_index, get_or-set_same, get_or-set_other, mod-eq_of_lt, refl, sym, ap, ◌∙◌, subst, arith}
 use Rattle.std.proofs.lemmas.Bool.{and_parts, or_cases, not-true, cases_eq, true≢false, false≢true}
 use Rattle.std.proofs.lemmas.Grind.{same_number_lists}
 use Rattle.std.proofs.lemmas.List.{length-set}
@@ -30,8 +30,7 @@ use Rattle.kc_exec.specs.declared.state.Activation.{Activation}
 use Rattle.kc_exec.specs.declared.state.State.{State}
 use Rattle.kc_events.specs.Breaks.{IsContext, Restores}
 use Rattle.kc_events.specs.Turns.{newest, without_newest}
-use Rattle.kc_state.specs.Conditions.{is_exact, is_exact_at, rest_restores, is_entry, are_entries}
-use Rattle.kc_state.specs.Location.{location_of}
+use Rattle.kc_state.specs.Conditions.{is_exact, rest_restores, is_entry, are_entries}
 use Rattle.kc_state.specs.Operand.{AbsMoment}
 use Rattle.kc_state.specs.State.{IsState}
 use Rattle.kc_state.specs.declared.key.Key.{Key}
@@ -41,12 +40,12 @@ use Rattle.kc_describes.specs.Describes.{Describes}
 use Rattle.kc_describes.specs.Fits.{is_user_mode}
 use Rattle.kc_describes.specs.Returned.{GivesBack}
 use Rattle.kc_describes.specs.Row.{value_at}
-use Rattle.kc_describes.specs.Spaces.{IsGsOf, IsCr3Of, GsStands}
-use Rattle.kc_describes.specs.Widths.{IsWord, IsMode, IsCpu, IsActivation, IsMachine}
-use Rattle.kc_describes.proofs.ChainLemmas.{newest_all}
-use Rattle.kc_returns.specs.Returns.{HasSelectors, HasSpaces, due_of}
+use Rattle.kc_describes.specs.Spaces.{IsGsOf, IsCr3Of}
+use Rattle.kc_describes.specs.Widths.{IsWord, IsMode, IsCpu, IsActivation}
+use Rattle.kc_returns.specs.Returns.{HasSpaces, due_of}
 use Rattle.kc_returns.specs.Whole.{HoldsFrame}
-use Rattle.kc_returns.proofs.LoadLemmas.{IsKernels, IsUsers, interrupted, flags_reload, selectors_are_due, spaces_are_kept}
+use Rattle.kc_returns.proofs.LoadLemmas.{IsKernels, IsUsers, interrupted}
+use Rattle.kc_returns.proofs.LoadLemmas.{flags_reload, selectors_are_due, spaces_are_kept}
 use Rattle.kc_returns.proofs.WordLemmas.{m, c, typed_due, reg_due, register_word, later_word, entries_at}
 
 -- ---- C12

@@ -1,6 +1,6 @@
 -- The instruction at an address. One alone is found there, since no spelling begins another. Where its bytes may be
 -- executed, each lies in a region that is present and executable, so in text: the fetch breaks nothing.
-use Rattle.std.proofs.Common.{◌≡◌, ℕ, ◌+◌, ◌≤◌, ◌^◌, ◌<◌, ◌&&◌, ◌⊎◌, inl, inr, Bool, true, List, [], ◌∷◌, ◌++◌, length, drop, find, All, Option, Some, None, IsSomeAnd, refl, sym, ap, ◌∙◌, subst, arith}
+use Rattle.std.proofs.Common.{◌≡◌, ℕ, ◌≤◌, ◌^◌, ◌<◌, ◌&&◌, ◌⊎◌, inl, inr, Bool, true, List, [], ◌∷◌, ◌++◌, length, drop, find, All, Option, Some, None, IsSomeAnd, refl, sym, ap, ◌∙◌, subst, arith}
 use Rattle.std.proofs.lemmas.Bool.{cases_lt, and_parts, and_from, false≢true}
 use Rattle.std.proofs.lemmas.List.{append-nil, take-append-drop}
 use Rattle.std.proofs.lemmas.List.Elements.{All-head, All-tail}
@@ -10,9 +10,9 @@ use Rattle.kc_decode.proofs.Answers.{unique}
 use Rattle.kc_image.specs.Image.{Contents, run}
 use Rattle.kc_regions.specs.Description.{Description}
 use Rattle.kc_regions.specs.Layout.{InBytes}
-use Rattle.kc_regions.specs.Permission.{passes, in_guard, is_present, has_right, permits}
+use Rattle.kc_regions.specs.Permission.{passes, is_present, has_right, permits}
 use Rattle.kc_regions.specs.Ranges.{IsRegionInRange}
-use Rattle.kc_regions.specs.Region.{holds, region_of}
+use Rattle.kc_regions.specs.Region.{holds}
 use Rattle.kc_regions.specs.Valid.{IsValid}
 use Rattle.kc_regions.specs.declared.region.Kind.TheVariants.{Text}
 use Rattle.kc_regions.specs.declared.region.Region.{Region}
@@ -31,7 +31,7 @@ use Rattle.kc_state.specs.Access.{is_present_under, may_region, may_byte, may_by
 use Rattle.kc_state.specs.declared.key.Key.{Key}
 use Rattle.kc_state.specs.declared.location.Location.TheVariants.{Number}
 use Rattle.kc_describes.specs.Spaces.{IsCr3Of}
-use Rattle.kc_describes.proofs.PermissionLemmas.{IsKnownCr3, passed, IsOpen, open_byte, may_each, may_permits}
+use Rattle.kc_describes.proofs.PermissionLemmas.{IsKnownCr3, IsOpen, open_byte, may_each, may_permits}
 use Rattle.kc_describes.proofs.QuietLemmas.{IsQuiet}
 
 -- ---- one instruction

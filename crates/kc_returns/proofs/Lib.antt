@@ -3,4 +3,5 @@ pub mod FetchLemmas
 pub mod WordLemmas
 pub mod ContextLemmas
 pub mod AccessLemmas
+pub mod PassLemmas
 pub mod WholeLemmas

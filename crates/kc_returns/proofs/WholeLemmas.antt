@@ -1,19 +1,17 @@
--- A whole return. What an IRETQ and a SYSRETQ leave has the facts of `IsReturnTurn`; from these alone nothing breaks, and
--- a step that doesn't stop gives the context back. One instruction is found, so each break speaks of this one.
-use Rattle.std.proofs.Common.{◌≡◌, ℕ, ◌+◌, ◌%◌, ◌^◌, ◌<◌, ◌&&◌, ◌⊎◌, inl, inr, Bool, true, false, List, [], ◌∷◌, length, All, Option, Some, None, IsSomeAnd, refl, sym, ap, ◌∙◌, subst, arith}
+-- A whole return. What an IRETQ and a SYSRETQ leave has the facts of `IsReturnTurn`; from these alone nothing breaks,
+-- and a step that doesn't stop gives the context back. One instruction is found, so each break speaks of this one.
+use Rattle.std.proofs.Common.{◌≡◌, ℕ, ◌+◌, ◌^◌, ◌<◌, ◌⊎◌, inl, inr, true, length, All, Option, Some, IsSomeAnd, refl, sym, ap, ◌∙◌, subst, arith}
 use Rattle.std.specs.Option.{option_map_or}
-use Rattle.std.proofs.lemmas.Bool.{and_parts, false≢true}
+use Rattle.std.proofs.lemmas.Bool.{and_parts}
 use Rattle.kc_bits.specs.Bits.{word}
 use Rattle.kc_insn.specs.declared.insn.Insn.{Insn}
 use Rattle.kc_insn.specs.declared.insn.Insn.TheVariants.{Iretq, Sysretq}
 use Rattle.kc_image.specs.Image.{Contents}
 use Rattle.kc_regions.specs.Description.{Description}
-use Rattle.kc_cpu.specs.declared.cpu.Cpu.{Cpu}
 use Rattle.kc_cpu.specs.declared.cpu.Mode.{Mode}
 use Rattle.kc_exec.specs.Breaks.{effect}
 use Rattle.kc_exec.specs.Effect.{row}
 use Rattle.kc_exec.specs.Execution.{moment}
-use Rattle.kc_exec.specs.Moment.{Moment}
 use Rattle.kc_exec.specs.Operand.{plus}
 use Rattle.kc_exec.specs.declared.executed.ExecEnd.{ExecEnd}
 use Rattle.kc_exec.specs.declared.executed.ExecEnd.TheVariants.{Returned, Forbidden}
@@ -36,11 +34,13 @@ use Rattle.kc_describes.specs.Spaces.{LatchesStand}
 use Rattle.kc_describes.specs.Widths.{IsWord}
 use Rattle.kc_describes.proofs.QuietLemmas.{IsQuiet, quiet_gs, quiet_touches, quiet_writes}
 use Rattle.kc_returns.specs.Returns.{due_of, latches_at_return}
-use Rattle.kc_returns.specs.Whole.{PassesReturn, IsReturnAt, HoldsFrame, FrameIsDue, IsBack, IsReturnCovered, ReturnIsCovered}
+use Rattle.kc_returns.specs.Whole.{PassesReturn, IsReturnAt, HoldsFrame, FrameIsDue}
+use Rattle.kc_returns.specs.Whole.{IsBack, IsReturnCovered, ReturnIsCovered}
 use Rattle.kc_returns.proofs.LoadLemmas.{latches_follow}
 use Rattle.kc_returns.proofs.FetchLemmas.{one_found, decodable}
 use Rattle.kc_returns.proofs.WordLemmas.{frame_due}
-use Rattle.kc_returns.proofs.ContextLemmas.{newest_some, loads_user, iret_restores, iret_typed, sysret_restores, given_back}
+use Rattle.kc_returns.proofs.ContextLemmas.{newest_some, loads_user, given_back}
+use Rattle.kc_returns.proofs.ContextLemmas.{iret_restores, iret_typed, sysret_restores}
 use Rattle.kc_returns.proofs.AccessLemmas.{sysret_quiet, iret_quiet}
 
 -- ---- what a return leaves

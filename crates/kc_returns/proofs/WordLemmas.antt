@@ -1,34 +1,31 @@
--- The words that a return loads are the due processor's. By C12 a value is Entry of the word, which names the word of the
--- processor that is due, or a constant, which is the selector that is due; and what is loaded of the stack stands for
--- the words in memory.
-use Rattle.std.proofs.Common.{◌≡◌, ℕ, ◌+◌, ◌*◌, ◌≤◌, ◌<◌, ◌^◌, ◌&&◌, ◌||◌, not, nat_eq, if◌then◌else◌, is_some, cond, zero, suc, inl, inr, Bool, true, false, List, [], ◌∷◌, ◌++◌, length, get_or, All, Option, Some, None, slice_index, refl, sym, ap, ◌∙◌, subst, arith}
+-- The words that a return loads are the due processor's. By C12 a value is Entry of the word, which names the word of
+-- the processor that is due, or a constant, which is the selector that is due; and what is loaded of the stack stands
+-- for the words in memory.
+use Rattle.std.proofs.Common.{◌≡◌, ℕ, ◌+◌, ◌*◌, ◌<◌, ◌^◌, ◌||◌, not, nat_eq, if◌then◌else◌, is_some, cond, zero, suc, inl, inr, Bool, true, false, List, [], ◌∷◌, length, get_or, Option, Some, None, slice_index, refl, sym, ap, ◌∙◌, subst, arith}
 use Rattle.std.proofs.lemmas.Bool.{and_parts, or_cases, eqb-true, false≢true}
 use Rattle.std.proofs.lemmas.List.{get_or_append_left, get_or-append-add}
 use Rattle.kc_insn.specs.declared.insn.Insn.{Insn}
-use Rattle.kc_insn.specs.declared.insn.Insn.TheVariants.{Iretq}
 use Rattle.kc_regions.specs.Description.{Description}
 use Rattle.kc_regions.specs.Permission.{user_cs64, user_ss}
 use Rattle.kc_regions.specs.Valid.{IsValid}
 use Rattle.kc_words.specs.declared.width.Width.TheVariants.{Quad}
 use Rattle.kc_cpu.specs.declared.cpu.Cpu.{Cpu}
-use Rattle.kc_cpu.specs.declared.cpu.Mode.TheVariants.{Code}
 use Rattle.kc_mem.specs.Memory.{read}
 use Rattle.kc_mem.proofs.NumberLemmas.{read_word}
 use Rattle.kc_exec.specs.Change.{stack_address, stack_word}
 use Rattle.kc_exec.specs.Moment.{Moment}
-use Rattle.kc_exec.specs.Register.{register, rsp}
-use Rattle.kc_exec.specs.declared.state.Activation.{Activation}
 use Rattle.kc_exec.specs.declared.state.State.{State}
 use Rattle.kc_value.specs.AbsValue.{AbsValue}
 use Rattle.kc_value.specs.Symbol.{Names}
-use Rattle.kc_value.specs.Value.{IsValidValue, Represents, value_top}
+use Rattle.kc_value.specs.Value.{Represents, value_top}
 use Rattle.kc_value.specs.declared.env.ValueEnv.{ValueEnv}
 use Rattle.kc_value.specs.declared.symbol.Sym.{Sym}
 use Rattle.kc_value.specs.declared.symbol.Sym.TheVariants.{Plain, Base, Entry, UserGs}
 use Rattle.kc_bits.specs.Bits.{bits_single}
 use Rattle.kc_state.specs.AbsEffect.{is_number, moment_of}
 use Rattle.kc_state.specs.Calls.{moved_up}
-use Rattle.kc_state.specs.Conditions.{is_word, is_entry, is_due, due_cs, due_ss, moved_location, stack_location, frame_word, frame_restores, are_entries}
+use Rattle.kc_state.specs.Conditions.{is_word, is_entry, is_due, due_cs, due_ss}
+use Rattle.kc_state.specs.Conditions.{moved_location, frame_word, frame_restores, are_entries}
 use Rattle.kc_state.specs.Location.{location_of}
 use Rattle.kc_state.specs.Operand.{AbsMoment, load_at}
 use Rattle.kc_state.specs.State.{IsState}
@@ -37,7 +34,6 @@ use Rattle.kc_state.specs.declared.location.Location.{Location}
 use Rattle.kc_state.specs.declared.state.AbsState.{AbsState}
 use Rattle.kc_describes.specs.Chain.{newest_of, words_of, env_of}
 use Rattle.kc_describes.specs.Describes.{Describes}
-use Rattle.kc_describes.specs.Places.{address_of}
 use Rattle.kc_describes.specs.Row.{value_at, RegistersStand, FileStands}
 use Rattle.kc_describes.specs.Widths.{IsActivation}
 use Rattle.kc_describes.proofs.AccessLemmas.{moved_at}

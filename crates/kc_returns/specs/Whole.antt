@@ -1,6 +1,6 @@
 -- A whole return, this project's own: where the conditions on an IRETQ or a SYSRETQ hold, it breaks nothing and gives
 -- back the context that is due.
-use Rattle.std.specs.Prelude.{◌≡◌, ℕ, ◌+◌, true, false, ◌⊎◌, Some}
+use Rattle.std.specs.Prelude.{◌≡◌, ℕ, ◌+◌, true, false, ◌⊎◌, Some, Ok}
 use Rattle.kc_bits.specs.Bits.{word}
 use Rattle.kc_insn.specs.declared.insn.Insn.{Insn}
 use Rattle.kc_insn.specs.declared.insn.Insn.TheVariants.{Iretq, Sysretq}
@@ -18,12 +18,15 @@ use Rattle.kc_events.specs.declared.turn.Turn.TheVariants.{Go}
 use Rattle.kc_events.specs.Fetched.{IsAt}
 use Rattle.kc_events.specs.Run.{Breaks, Steps}
 use Rattle.kc_state.specs.AbsEffect.{abs_row, moment_of}
+use Rattle.kc_state.specs.AbsStep.{abs_step}
 use Rattle.kc_state.specs.Access.{may_bytes}
 use Rattle.kc_state.specs.Conditions.{accesses_of, is_exact, is_permitted, is_allowed, restores}
 use Rattle.kc_state.specs.Operand.{AbsMoment}
 use Rattle.kc_state.specs.State.{IsState}
 use Rattle.kc_state.specs.declared.key.Key.{Key}
 use Rattle.kc_state.specs.declared.state.AbsState.{AbsState}
+use Rattle.kc_state.specs.declared.succ.Succ.{Succ}
+use Rattle.kc_state.specs.declared.succ.Succ.TheVariants.{Returns}
 use Rattle.kc_describes.specs.Describes.{Describes}
 use Rattle.kc_describes.specs.Returned.{GivesBack}
 use Rattle.kc_describes.specs.Spaces.{LatchesStand}
@@ -37,6 +40,12 @@ pub record PassesReturn (m : AbsMoment) (insn : Insn) : Type 0 where
   pub permitted : is_permitted m insn (accesses_of m insn (abs_row m insn).store) ≡ true
   pub allowed : is_allowed m insn ≡ true
   pub restores : restores m insn ≡ true
+
+-- where the step of the analysis is answered for a return, these hold, and the program goes on nowhere in its context
+abbrev pub StepPassesReturn : Type 0
+StepPassesReturn = (cfg : Description) (key : Key) (s : AbsState) (insn : Insn) (next : ℕ) (succ : Succ)
+    (out : AbsState) → (insn ≡ Iretq) ⊎ (insn ≡ Sysretq) → abs_step cfg key s insn next ≡ Ok (succ, out)
+    → PassesReturn (moment_of cfg key s next) insn × (succ ≡ Returns)
 
 -- A return is next: the image spells it, in text that may be executed (C5), its other conditions hold, and the state
 -- describes the machine.
