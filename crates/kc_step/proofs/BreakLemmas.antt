@@ -30,15 +30,18 @@ use Rattle.kc_events.specs.Breaks.{IsUndecodable, BreaksWith}
 use Rattle.kc_events.specs.Fetched.{IsAt}
 use Rattle.kc_events.specs.Run.{Breaks}
 use Rattle.kc_state.specs.AbsEffect.{abs_row, moment_of}
+use Rattle.kc_state.specs.AbsStep.{abs_step}
 use Rattle.kc_state.specs.declared.key.Key.{Key}
 use Rattle.kc_state.specs.declared.state.AbsState.{AbsState}
+use Rattle.kc_state.specs.declared.succ.Succ.{Succ}
 use Rattle.kc_describes.proofs.QuietLemmas.{quiet_gs, quiet_touches, quiet_writes}
 use Rattle.kc_returns.specs.Whole.{IsReturnCovered}
 use Rattle.kc_returns.proofs.FetchLemmas.{one_found, decodable}
+use Rattle.kc_returns.proofs.PassLemmas.{step_passes}
 use Rattle.kc_returns.proofs.WholeLemmas.{return_covered}
 use Rattle.kc_system.proofs.LawLemmas.{breaks_nothing}
-use Rattle.kc_step.specs.Step.{IsAtInsn}
-use Rattle.kc_step.proofs.PassLemmas.{PassesAll}
+use Rattle.kc_step.specs.Step.{IsAtInsn, StepBreaksNothing}
+use Rattle.kc_step.proofs.PassLemmas.{PassesAll, IsAnswer, answered}
 use Rattle.kc_step.proofs.AccessLemmas.{there, before, at_fits, kernel, all_quiet, open_data, conditions}
 
 -- ---- how an instruction ends
@@ -89,7 +92,7 @@ row_end m Swapgs keeps = refl
 row_end m (ReadGs r) keeps = refl
 row_end m (WriteGs r) keeps = refl
 row_end m Rdmsr keeps = refl
-row_end m Wrmsr keeps = msr_end m _ _
+row_end m Wrmsr keeps = msr_end m (effects.msr_number m.cpu) (effects.edx_eax m.cpu)
 row_end m (ReadCr3 r) keeps = refl
 row_end m (WriteCr3 r) keeps = refl
 row_end m Sysretq keeps = absurd (keeps.sysretq refl)
@@ -145,3 +148,42 @@ module _ (cfg : Description) (image : Contents) (key : Key) (at : ℕ) (insn : I
   quiet b h =
       unbroken b
       (subst (λ f. BreaksWith cfg f S Go (attempt cfg f S Go) b) (found_one h.found h.fetched) h.broken)
+
+-- ---- all instructions
+
+pub which : (insn : Insn) → ((insn ≡ Iretq) ⊎ (insn ≡ Sysretq)) ⊎ IsNoReturn insn
+which Iretq = inl (inl refl)
+which Sysretq = inl (inr refl)
+which insn = inr (record { iretq = λ e. absurd cc; sysretq = λ e. absurd cc })
+
+module _ (cfg : Description) (image : Contents) (key : Key) (at : ℕ) (insn : Insn) (len : ℕ) (s : AbsState)
+    (S : State) (H : IsAtInsn cfg image key at insn len s S) (succ : Succ) (out : AbsState)
+    (answer : abs_step cfg key s insn (word (at + len)) ≡ Ok (succ, out)) where
+  -- the conditions, with the address after the instruction as the machine has it
+  pub is_answer : IsAnswer cfg key s insn (before cfg image key at insn len s S H) succ out
+  is_answer =
+      subst (λ a. IsAnswer cfg key s insn (moment_of cfg key s (word (a + len))) succ out) (sym H.described.point.1)
+      (answered cfg key s insn (word (at + len)) succ out answer)
+
+  pub returns : (insn ≡ Iretq) ⊎ (insn ≡ Sysretq) → IsReturnCovered cfg image insn s S
+  returns is =
+      return_covered cfg image key at insn len s S (record {
+        valid = H.valid;
+        state = H.state;
+        is_return = is;
+        spelled = H.spelled;
+        text = H.text;
+        passes = (step_passes cfg key s insn (word (at + len)) succ out is answer).0;
+        described = H.described;
+      })
+
+  all_quiet_by : ((insn ≡ Iretq) ⊎ (insn ≡ Sysretq)) ⊎ IsNoReturn insn → (b : ℕ) → Breaks cfg image S Go b → ⊥
+  all_quiet_by (inl is) b h = (returns is).quiet b h
+  all_quiet_by (inr keeps) b h = quiet cfg image key at insn len s S H keeps is_answer.passes b h
+
+  pub nothing_breaks : (b : ℕ) → Breaks cfg image S Go b → ⊥
+  nothing_breaks b h = all_quiet_by (which insn) b h
+
+pub step_breaks_nothing : StepBreaksNothing
+step_breaks_nothing cfg image key at insn len s S succ out H answer b h =
+    nothing_breaks cfg image key at insn len s S H succ out answer b h

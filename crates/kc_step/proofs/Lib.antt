@@ -1,3 +1,4 @@
 pub mod PassLemmas
 pub mod AccessLemmas
 pub mod BreakLemmas
+pub mod StoreLemmas
