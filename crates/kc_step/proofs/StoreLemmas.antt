@@ -134,10 +134,10 @@ row_reads m insn keeps = tt
 
 -- ---- the last access
 
-abbrev abs_access : AbsStore → AbsAccess
+abbrev pub abs_access : AbsStore → AbsAccess
 abs_access st = record { at = st.at; size = st.size; touch = ForWrite; gs = st.gs }
 
-abbrev LastAgrees : Description → Key → ℕ → Option AbsStore → Option Write → Type 0
+abbrev pub LastAgrees : Description → Key → ℕ → Option AbsStore → Option Write → Type 0
 LastAgrees cfg key base None None = Unit {0}
 LastAgrees cfg key base (Some st) (Some w) = AccessAgrees cfg key base (abs_access st) (access_of w)
 LastAgrees cfg key base None (Some w) = ⊥
@@ -161,7 +161,7 @@ last cfg key base (l ∷ ls) (d ∷ ds) st w known reads h = last cfg key base l
 
 -- ---- the store
 
-may_all : (m : AbsMoment) (ls : List AbsAccess) (st : AbsStore)
+pub may_all : (m : AbsMoment) (ls : List AbsAccess) (st : AbsStore)
     → list_all (λ a. may_at m a.at a.size a.touch) (ls ++ abs_access st ∷ []) ≡ true
     → may_at m st.at st.size ForWrite ≡ true
 may_all m [] st h = (and_parts (may_at m st.at st.size ForWrite) true h).0
