@@ -40,7 +40,7 @@ use Rattle.kc_returns.proofs.FetchLemmas.{one_found, decodable}
 use Rattle.kc_returns.proofs.PassLemmas.{step_passes}
 use Rattle.kc_returns.proofs.WholeLemmas.{return_covered}
 use Rattle.kc_system.proofs.LawLemmas.{breaks_nothing}
-use Rattle.kc_step.specs.Step.{IsAtInsn, StepBreaksNothing}
+use Rattle.kc_step.specs.Step.{IsNoReturn, IsAtInsn, StepBreaksNothing}
 use Rattle.kc_step.proofs.PassLemmas.{PassesAll, IsAnswer, answered}
 use Rattle.kc_step.proofs.AccessLemmas.{there, before, at_fits, kernel, all_quiet, open_data, conditions}
 
@@ -57,11 +57,6 @@ msr_end m number v =
     cond_both (number == effects.gs_base) _ _ P (λ h. refl)
     (λ h. cond_both (number == effects.kernel_gs_base) _ _ P (λ g. refl)
     (λ g. cond_both (number == effects.mcg_status) _ _ P (λ k. refl) (λ k. refl)))
-
--- an instruction that is no return
-pub record IsNoReturn (insn : Insn) : Type 0 where
-  pub iretq : insn ≡ Iretq → ⊥
-  pub sysretq : insn ≡ Sysretq → ⊥
 
 pub row_end : (m : Moment) (insn : Insn) → IsNoReturn insn → (row m insn).end ≡ Next
 unfolding row

@@ -39,11 +39,11 @@ use Rattle.kc_describes.proofs.FrameLemmas.{after_row}
 use Rattle.kc_moves.specs.Moves.{StoreAgrees}
 use Rattle.kc_calls.specs.Laws.{code_at}
 use Rattle.kc_calls.proofs.InsideLemmas.{like_described}
-use Rattle.kc_step.specs.Step.{IsAtInsn}
+use Rattle.kc_step.specs.Step.{IsNoReturn, IsAtInsn}
 use Rattle.kc_step.proofs.PassLemmas.{PassesAll}
 use Rattle.kc_step.proofs.AccessLemmas.{before}
 use Rattle.kc_step.proofs.BreakLemmas as step
-use Rattle.kc_step.proofs.BreakLemmas.{IsNoReturn, row_end, found_one, is_row, unbroken, quiet}
+use Rattle.kc_step.proofs.BreakLemmas.{row_end, found_one, is_row, unbroken, quiet}
 use Rattle.kc_step.proofs.BytesLemmas.{bytes_after}
 use Rattle.kc_step.proofs.SlotLemmas.{slots_after, bare_after}
 use Rattle.kc_step.proofs.StoreLemmas.{LastAgrees, last_agrees, may_all}

@@ -5,3 +5,4 @@ pub mod StoreLemmas
 pub mod SlotLemmas
 pub mod BytesLemmas
 pub mod GoesLemmas
+pub mod FallLemmas

@@ -3,4 +3,4 @@
 
 mod laws;
 
-pub use laws::quiet;
+pub use laws::{moved, quiet};
