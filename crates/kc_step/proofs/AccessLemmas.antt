@@ -1,13 +1,12 @@
 -- The accesses of an instruction that isn't IRETQ. On both sides they agree, and the fetch and each data access break
 -- nothing, by C4 to C8. Where none stops the machine, none has a byte in a guard.
-use Rattle.std.proofs.Common.{◌≡◌, ℕ, zero, suc, ◌+◌, ◌^◌, ◌<◌, ◌&&◌, ◌||◌, ◌⊎◌, not, inl, inr, Bool, true, false, List, [], ◌∷◌, All, Option, Some, None, refl, sym, ap, ◌∙◌, subst, arith}
+use Rattle.std.proofs.Common.{◌≡◌, ℕ, zero, suc, ◌^◌, ◌<◌, ◌&&◌, ◌⊎◌, not, inl, inr, true, false, List, [], ◌∷◌, All, Option, Some, None, refl, sym, ap, ◌∙◌, subst, arith}
 use Rattle.std.specs.List.{list_all, list_any}
 use Rattle.std.proofs.lemmas.Bool.{cases_eq, and_parts, or_parts, or_cases, not-true, false≢true}
 use Rattle.std.proofs.lemmas.List.Elements.{All-nil, All-cons, All-head, All-tail}
-use Rattle.kc_bits.specs.Bits.{word}
 use Rattle.kc_insn.proofs.Encoded.{spelled-encodable}
 use Rattle.kc_insn.specs.declared.insn.Insn.{Insn}
-use Rattle.kc_insn.specs.declared.insn.Insn.TheVariants.{Mov, Lea, Xchg, Push, Pop, Alu, Test, Bit, Jcc, Jmp, Call, Iretq}
+use Rattle.kc_insn.specs.declared.insn.Insn.TheVariants.{Mov, Lea, Xchg, Push, Pop, Alu, Test, Bit, Iretq}
 use Rattle.kc_insn.specs.declared.insn.Source.{Source}
 use Rattle.kc_insn.specs.declared.insn.Source.TheVariants as source
 use Rattle.kc_insn.specs.Fields.{source_of}
@@ -27,13 +26,12 @@ use Rattle.kc_exec.specs.Effect.{row}
 use Rattle.kc_exec.specs.Execution as machine
 use Rattle.kc_exec.specs.Execution.{moment, guarded, stops, fetch_of, data_accesses}
 use Rattle.kc_exec.specs.Moment.{Moment}
-use Rattle.kc_exec.specs.Operand.{plus}
 use Rattle.kc_exec.specs.declared.access.Access.{Access}
 use Rattle.kc_exec.specs.declared.executed.Executed.{Executed}
 use Rattle.kc_exec.specs.declared.state.Activation.{Activation}
 use Rattle.kc_exec.specs.declared.state.State.{State}
-use Rattle.kc_state.specs.AbsEffect.{abs_row, moment_of}
-use Rattle.kc_state.specs.Conditions.{accesses_of, may_at, is_write, clear_at, permits_more}
+use Rattle.kc_state.specs.AbsEffect.{abs_row}
+use Rattle.kc_state.specs.Conditions.{accesses_of, may_at, permits_more}
 use Rattle.kc_state.specs.Moment.{cpu_of}
 use Rattle.kc_state.specs.Operand.{AbsMoment}
 use Rattle.kc_state.specs.declared.key.Key.{Key}

@@ -1,7 +1,7 @@
 -- No break. A return breaks nothing by the law of returns. Any other instruction ends with the next one, where no byte
 -- of its accesses lies in a guard: so B5 to B8 don't come; B1 doesn't by C5, and B2 to B4 don't since its accesses break
 -- nothing.
-use Rattle.std.proofs.Common.{◌≡◌, ℕ, ◌+◌, ◌^◌, ◌<◌, ◌==◌, ◌⊎◌, inl, inr, Bool, true, false, List, All, Option, Some, None, Ok, refl, sym, ap, ◌∙◌, subst, arith}
+use Rattle.std.proofs.Common.{◌≡◌, ℕ, ◌+◌, ◌==◌, ◌⊎◌, inl, inr, false, List, Option, Some, None, Ok, refl, sym, ap, ◌∙◌, subst}
 use Rattle.std.proofs.lemmas.Bool.{cond_both}
 use Rattle.kc_bits.specs.Bits.{word}
 use Rattle.kc_words.specs.declared.width.Width.{Width}
@@ -17,7 +17,7 @@ use Rattle.kc_exec.specs.Breaks.{effect}
 use Rattle.kc_exec.specs.Change.{operated}
 use Rattle.kc_exec.specs.Effect as effects
 use Rattle.kc_exec.specs.Effect.{row, with_msr}
-use Rattle.kc_exec.specs.Execution.{moment, stops}
+use Rattle.kc_exec.specs.Execution.{stops}
 use Rattle.kc_exec.specs.Moment.{Moment}
 use Rattle.kc_exec.specs.declared.access.Access.{Access}
 use Rattle.kc_exec.specs.declared.executed.ExecEnd.{ExecEnd}
@@ -29,7 +29,7 @@ use Rattle.kc_events.specs.Attempt.{Attempt, executed, attempt}
 use Rattle.kc_events.specs.Breaks.{IsUndecodable, BreaksWith}
 use Rattle.kc_events.specs.Fetched.{IsAt}
 use Rattle.kc_events.specs.Run.{Breaks}
-use Rattle.kc_state.specs.AbsEffect.{abs_row, moment_of}
+use Rattle.kc_state.specs.AbsEffect.{moment_of}
 use Rattle.kc_state.specs.AbsStep.{abs_step}
 use Rattle.kc_state.specs.declared.key.Key.{Key}
 use Rattle.kc_state.specs.declared.state.AbsState.{AbsState}

@@ -1,5 +1,5 @@
 -- An instruction that moves values goes on at the next one: by its law, and by where a row leads.
-use Rattle.std.proofs.Common.{◌≡◌, ℕ, ◌+◌, ◌⊎◌, inl, inr, true, false, Option, Some, Ok, refl, sym, ap, ◌∙◌, subst}
+use Rattle.std.proofs.Common.{◌≡◌, ℕ, ◌+◌, ◌⊎◌, inl, inr, true, Option, Ok, sym, ap, ◌∙◌, subst}
 use Rattle.kc_bits.specs.Bits.{word}
 use Rattle.kc_insn.specs.declared.insn.Insn.{Insn}
 use Rattle.kc_insn.proofs.Encoded.{spelled-encodable}
@@ -10,7 +10,6 @@ use Rattle.kc_insn.specs.Fields.{source_of}
 use Rattle.kc_image.specs.Image.{Contents}
 use Rattle.kc_regions.specs.Description.{Description}
 use Rattle.kc_exec.specs.Effect.{row}
-use Rattle.kc_exec.specs.Execution.{moment}
 use Rattle.kc_exec.specs.declared.state.State.{State}
 use Rattle.kc_events.specs.declared.turn.Turn.TheVariants.{Go}
 use Rattle.kc_events.specs.Run.{Steps}
@@ -24,7 +23,7 @@ use Rattle.kc_describes.specs.Describes.{Describes}
 use Rattle.kc_calls.specs.Laws.{code_at}
 use Rattle.kc_moves.specs.Moves as moves
 use Rattle.kc_moves.specs.Moves.{MovesOn, CoversMove}
-use Rattle.kc_step.specs.Step.{HasDisp, HasFields, IsNoReturn, IsAtInsn, StepFallsThrough, MovesFallThrough}
+use Rattle.kc_step.specs.Step.{HasDisp, HasFields, IsNoReturn, IsAtInsn, MovesFallThrough}
 use Rattle.kc_step.proofs.PassLemmas.{IsAnswer}
 use Rattle.kc_step.proofs.AccessLemmas.{there, before, kernel}
 use Rattle.kc_step.proofs.BreakLemmas.{is_answer}
@@ -70,14 +69,14 @@ module _ (cfg : Description) (image : Contents) (key : Key) (at : ℕ) (insn : I
         inr (
           sym A.leads ∙ moved.succ,
           λ found. subst (λ o. Describes cfg key (code_at (word (at + len))) found o T) after_is
-          (leads cfg image key at insn len s S H keeps A.passes (word (at + len)) (record {
-            row = moved.row;
-            typed = moved.typed;
-            kernel = moved.kernel;
-            mode = moved.mode;
-            rip = moved.rip ∙ ap (λ a. word (a + len)) H.described.point.1;
-            store = moved.store;
-          }) T left.1 found),
+              (leads cfg image key at insn len s S H keeps A.passes (word (at + len)) (record {
+                row = moved.row;
+                typed = moved.typed;
+                kernel = moved.kernel;
+                mode = moved.mode;
+                rip = moved.rip ∙ ap (λ a. word (a + len)) H.described.point.1;
+                store = moved.store;
+              }) T left.1 found),
         )
   ]
 

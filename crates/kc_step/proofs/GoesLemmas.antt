@@ -1,16 +1,15 @@
 -- Where kernel code goes on after an instruction that isn't a return: the machine stops, or the state with the change
 -- describes it at the address where it goes on. A step that is done touched no guard, so it is the row of the
 -- instruction; slots and bytes are those after its write.
-use Rattle.std.proofs.Common.{◌≡◌, ℕ, ◌+◌, ◌^◌, ◌<◌, ◌⊎◌, inl, inr, Bool, true, false, List, Option, Some, None, refl, sym, ap, ◌∙◌, subst, arith}
+use Rattle.std.proofs.Common.{◌≡◌, ℕ, ◌⊎◌, inl, inr, true, false, List, Option, Some, refl, sym, ap, ◌∙◌, subst}
 use Rattle.std.specs.List.{list_all}
-use Rattle.std.specs.Prelude.{if◌then◌else◌, ◌++◌, [], ◌∷◌}
+use Rattle.std.specs.Prelude.{if◌then◌else◌, ◌++◌}
 use Rattle.std.proofs.lemmas.Bool.{and_parts, cases_Bool}
 use Rattle.kc_insn.specs.declared.insn.Insn.{Insn}
 use Rattle.kc_image.specs.Image.{Contents}
 use Rattle.kc_regions.specs.Description.{Description}
 use Rattle.kc_regions.specs.declared.touch.Touch.TheVariants.{Write as ForWrite}
 use Rattle.kc_cpu.specs.declared.cpu.Mode.TheVariants.{Code}
-use Rattle.kc_exec.specs.Breaks.{effect}
 use Rattle.kc_exec.specs.Effect.{row}
 use Rattle.kc_exec.specs.Execution.{stops, with_write}
 use Rattle.kc_exec.specs.declared.executed.ExecEnd.{ExecEnd}
@@ -19,8 +18,7 @@ use Rattle.kc_exec.specs.declared.executed.Executed.{Executed}
 use Rattle.kc_exec.specs.declared.state.Activation.{Activation}
 use Rattle.kc_exec.specs.declared.state.State.{State}
 use Rattle.kc_events.specs.declared.turn.Turn.TheVariants.{Go}
-use Rattle.kc_events.specs.Attempt.{Attempt, executed, attempt, is_return}
-use Rattle.kc_events.specs.Breaks.{BreaksWith}
+use Rattle.kc_events.specs.Attempt.{Attempt, attempt, is_return}
 use Rattle.kc_events.specs.Fetched.{IsAt}
 use Rattle.kc_events.specs.Run.{IsLike, after, Stops, Steps}
 use Rattle.kc_events.specs.Run.Steps.{Refused, Halted, Done}
@@ -30,7 +28,7 @@ use Rattle.kc_state.specs.Conditions.{reads_of, write_of, accesses_of, may_at, p
 use Rattle.kc_state.specs.Operand.{AbsMoment}
 use Rattle.kc_state.specs.declared.key.Key.{Key}
 use Rattle.kc_state.specs.declared.state.AbsState.{AbsState}
-use Rattle.kc_describes.specs.Chain.{newest_of, env_of}
+use Rattle.kc_describes.specs.Chain.{env_of}
 use Rattle.kc_describes.specs.Describes.{Describes}
 use Rattle.kc_describes.specs.Fits.{IsKernelCpu}
 use Rattle.kc_describes.specs.Row.{RowStands}
@@ -46,7 +44,7 @@ use Rattle.kc_step.proofs.BreakLemmas as step
 use Rattle.kc_step.proofs.BreakLemmas.{row_end, found_one, is_row, unbroken, quiet}
 use Rattle.kc_step.proofs.BytesLemmas.{bytes_after}
 use Rattle.kc_step.proofs.SlotLemmas.{slots_after, bare_after}
-use Rattle.kc_step.proofs.StoreLemmas.{LastAgrees, last_agrees, may_all}
+use Rattle.kc_step.proofs.StoreLemmas.{last_agrees, may_all}
 
 -- what a row leaves, where kernel code goes on at this address
 pub record RunsOnAt (cfg : Description) (chain : List Activation) (out : AbsState) (made : Option AbsStore)

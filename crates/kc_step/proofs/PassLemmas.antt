@@ -1,11 +1,11 @@
 -- Where the abstract step of an instruction has an answer, its conditions hold, since each refuses where its test fails;
 -- and the answer is the change of the instruction.
-use Rattle.std.proofs.Common.{◌≡◌, ℕ, Bool, true, false, not, Result, Ok, Err, refl, sym, ap, ◌∙◌, subst}
+use Rattle.std.proofs.Common.{◌≡◌, ℕ, Bool, true, false, not, Result, Ok, Err, refl, ap}
 use Rattle.kc_insn.specs.declared.insn.Insn.{Insn}
 use Rattle.kc_regions.specs.Description.{Description}
 use Rattle.kc_rules.specs.Rules.{refuse, ◌>>=◌}
-use Rattle.kc_rules.proofs.AnswerLemmas.{done, ok_is}
-use Rattle.kc_state.specs.AbsEffect.{AbsChange, abs_row, applied, moment_of}
+use Rattle.kc_rules.proofs.AnswerLemmas.{ok_is}
+use Rattle.kc_state.specs.AbsEffect.{abs_row, applied, moment_of}
 use Rattle.kc_state.specs.AbsStep.{condition, conditions, answer, with_call, abs_step}
 use Rattle.kc_state.specs.Conditions.{accesses_of, is_exact, uses_kernel_gs, is_permitted, is_clear, loads_known_cr3}
 use Rattle.kc_state.specs.Conditions.{calls_well, is_allowed, restores}

@@ -1,12 +1,11 @@
 -- What is known of memory after an instruction's write: each slot stands for its word, by the law of stores, where the
 -- write is the store; and the base slots of a syscall stay the top.
-use Rattle.std.proofs.Common.{◌≡◌, ℕ, ◌+◌, ◌/◌, ◌^◌, ◌<◌, true, List, length, All, Option, Some, None, refl, sym, ap, ◌∙◌, subst, arith}
+use Rattle.std.proofs.Common.{◌≡◌, ℕ, ◌^◌, ◌<◌, true, List, length, All, Option, Some, None, refl, sym, subst, arith}
 use Rattle.kc_words.specs.declared.width.Width.{Width}
 use Rattle.kc_words.specs.declared.width.Width.TheVariants.{Byte, Long, Quad}
 use Rattle.kc_regions.specs.Description.{Description}
 use Rattle.kc_regions.specs.Valid.{IsValid}
 use Rattle.kc_regions.specs.declared.touch.Touch.TheVariants.{Write as ForWrite}
-use Rattle.kc_space.specs.declared.map.MapState.{MapState}
 use Rattle.kc_frames.specs.Slots.{slot_count}
 use Rattle.kc_mem.specs.Memory.{Bytes, write}
 use Rattle.kc_exec.specs.Execution.{access_of, with_write}
@@ -25,7 +24,7 @@ use Rattle.kc_state.specs.declared.location.Location.{Location}
 use Rattle.kc_describes.specs.Chain.{newest_of, env_of}
 use Rattle.kc_describes.specs.Describes.{AreBaseSlotsTop}
 use Rattle.kc_describes.specs.Fits.{ChainFits}
-use Rattle.kc_describes.specs.Places.{SlotsStand, address_of}
+use Rattle.kc_describes.specs.Places.{SlotsStand}
 use Rattle.kc_describes.specs.Widths.{IsActivation}
 use Rattle.kc_describes.proofs.AccessLemmas.{AccessAgrees}
 use Rattle.kc_describes.proofs.StoreLemmas.{store_stands, bare_redone, stored_top}

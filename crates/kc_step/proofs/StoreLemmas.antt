@@ -1,6 +1,6 @@
 -- The write of an instruction is the abstract store. Both sides agree on the data accesses, and the last of these is the
 -- write where there is one, since all others are reads: by cases on the instruction.
-use Rattle.std.proofs.Common.{◌≡◌, ℕ, ◌+◌, ◌%◌, ◌^◌, ◌<◌, ◌==◌, ◌&&◌, ◌⊎◌, inl, inr, Bool, true, false, List, [], ◌∷◌, ◌++◌, All, Option, Some, None, Ok, refl, sym, ap, ◌∙◌, subst, arith}
+use Rattle.std.proofs.Common.{◌≡◌, ℕ, ◌+◌, ◌%◌, ◌==◌, ◌⊎◌, inl, inr, true, List, [], ◌∷◌, ◌++◌, Option, Some, None, Ok, refl, sym, subst}
 use Rattle.std.specs.List.{list_all}
 use Rattle.std.proofs.lemmas.Bool.{cond_both, and_parts}
 use Rattle.kc_bits.specs.Bits.{word}
@@ -8,10 +8,9 @@ use Rattle.kc_words.specs.Flags.{bits_of}
 use Rattle.kc_words.specs.declared.width.Width.{Width}
 use Rattle.kc_words.specs.declared.width.Width.TheVariants.{Quad}
 use Rattle.kc_insn.specs.declared.insn.Insn.{Insn}
-use Rattle.kc_insn.specs.declared.insn.Insn.TheVariants.{Nop, Endbr64, Lfence, Ud2, Cld, Clac, Stac, Cli, Sti, Swapgs}
-use Rattle.kc_insn.specs.declared.insn.Insn.TheVariants.{Sysretq, Iretq, Rdmsr, Wrmsr, Pushfq, Popfq, Ret, ReadCr3}
-use Rattle.kc_insn.specs.declared.insn.Insn.TheVariants.{WriteCr3, ReadGs, WriteGs, Mov, Lea, Xchg, Push, Pop, Alu, Test}
-use Rattle.kc_insn.specs.declared.insn.Insn.TheVariants.{Bit, Jcc, Jmp, Call}
+use Rattle.kc_insn.specs.declared.insn.Insn.TheVariants.{Sysretq, Iretq, Wrmsr, Popfq, Ret}
+use Rattle.kc_insn.specs.declared.insn.Insn.TheVariants.{Mov, Xchg, Push, Pop, Alu, Test}
+use Rattle.kc_insn.specs.declared.insn.Insn.TheVariants.{Bit}
 use Rattle.kc_insn.specs.declared.insn.Place.{Place}
 use Rattle.kc_insn.specs.declared.insn.Source.{Source}
 use Rattle.kc_insn.specs.declared.insn.Source.TheVariants as source
@@ -24,7 +23,7 @@ use Rattle.kc_exec.specs.Breaks.{judged, break_of, effect}
 use Rattle.kc_exec.specs.Change.{operated}
 use Rattle.kc_exec.specs.Effect as effects
 use Rattle.kc_exec.specs.Effect.{row, with_msr}
-use Rattle.kc_exec.specs.Execution.{moment, access_of, write_access, data_accesses}
+use Rattle.kc_exec.specs.Execution.{moment, access_of, write_access}
 use Rattle.kc_exec.specs.Moment.{Moment}
 use Rattle.kc_exec.specs.Operand as operands
 use Rattle.kc_exec.specs.declared.access.Access.{Access}

@@ -1,5 +1,5 @@
 -- The step of one instruction, this project's own: what the abstract step says of the machine's.
-use Rattle.std.specs.Prelude.{◌≡◌, ℕ, ◌+◌, ◌^◌, ◌<◌, true, ◌⊎◌, Option, Some, None, Ok, FitsSigned}
+use Rattle.std.specs.Prelude.{◌≡◌, ℕ, ◌+◌, true, ◌⊎◌, Option, Some, None, Ok, FitsSigned}
 use Rattle.std.specs.Int.{w32}
 use Rattle.kc_bits.specs.Bits.{word}
 use Rattle.kc_insn.specs.declared.insn.Insn.{Insn}
@@ -13,7 +13,6 @@ use Rattle.kc_regions.specs.Valid.{IsValid}
 use Rattle.kc_regions.specs.declared.touch.Touch.TheVariants.{Fetch}
 use Rattle.kc_exec.specs.Breaks.{effect}
 use Rattle.kc_exec.specs.Execution.{moment}
-use Rattle.kc_exec.specs.Moment.{Moment}
 use Rattle.kc_exec.specs.Operand.{size_of}
 use Rattle.kc_exec.specs.declared.access.Write.{Write}
 use Rattle.kc_exec.specs.declared.state.State.{State}
@@ -23,7 +22,6 @@ use Rattle.kc_events.specs.Run.{Breaks, Steps}
 use Rattle.kc_state.specs.AbsEffect.{AbsStore, abs_row, moment_of}
 use Rattle.kc_state.specs.AbsStep.{abs_step}
 use Rattle.kc_state.specs.Access.{may_bytes}
-use Rattle.kc_state.specs.Operand.{AbsMoment}
 use Rattle.kc_state.specs.State.{IsState}
 use Rattle.kc_state.specs.declared.key.Key.{Key}
 use Rattle.kc_state.specs.declared.location.Location.{Location}
