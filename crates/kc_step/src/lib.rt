@@ -1,0 +1,6 @@
+//! The step of one instruction: laws on definitions of the model and of the analysis. Nothing here runs.
+#![tactic(auto)]
+
+mod laws;
+
+pub use laws::{moved, quiet};
