@@ -1,0 +1,3 @@
+//! Laws of all instructions but returns: what the analysis knows after one stands for what the processor
+//! leaves. Nothing here runs.
+#![tactic(auto)]
