@@ -1,0 +1,3 @@
+pub mod ArithGoesLemmas
+pub mod ArithLemmas
+pub mod FlagRowLemmas
