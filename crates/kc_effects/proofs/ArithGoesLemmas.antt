@@ -1,6 +1,6 @@
--- From what kc_arith says of an instruction to the form of any row. What an instruction finds is what the state says of
--- the processor; beside registers, flags, RIP and the gap after an STI its processor and its latches are those before it.
--- A store is the write where, beside what kc_arith says, its place is the write's address and its value is in range.
+-- From what kc_arith says of an instruction to the form of any row. An instruction finds what the state says of the
+-- processor; beside registers, flags, RIP and the gap after an STI it leaves processor and latches as they were. Its
+-- store is the write, where its place is also the write's address and its value is in range.
 use Rattle.std.proofs.Common.{◌≡◌, ℕ, ◌+◌, ◌/◌, ◌^◌, ◌<◌, ◌⊎◌, inl, inr, List, length, All, slice_index, Option, Some, None, refl, sym, ap, ◌∙◌, subst, arith}
 use Rattle.std.proofs.lemmas.List.Elements.{All-from_get_or}
 use Rattle.kc_words.specs.Flags.{bits_of}

@@ -1,6 +1,6 @@
 -- The rows of arithmetic, of TEST and of bit tests in the form of any row. Operands are known on both sides by one law
--- of operands, so kc_arith's rows hold; a result in memory goes to the address of its operand, and results are in range
--- since sums, differences and operations on bits keep known bits apart, and a moved value stays one.
+-- of operands, so kc_arith's rows hold. A result in memory goes to the address of its operand, and it is in range:
+-- operations keep known bits apart, and a moved value stays one.
 use Rattle.std.proofs.Common.{◌≡◌, ℕ, ◌%◌, ◌<◌, ◌++◌, Bool, true, false, ◌&&◌, if◌then◌else◌, neg_ℤ, List, Option, Some, None, IfSome, refl, arith}
 use Rattle.std.proofs.lemmas.Bool.{false≢true, and_parts, ltb-true}
 use Rattle.std.proofs.lemmas.Nat.{mod_below}
@@ -96,6 +96,7 @@ module _ (key : Key) (chain : List Activation) (s : AbsState) (m : Moment) (K : 
 
   -- ---- operands
 
+  -- what is known of an operand stands for it
   operand_for : (w : Width) (x : Source) → IsOperand x → IsFor env (operand before w x) (machine.operand m w x)
   operand_for w x is =
       operand_is cfg K.context.valid key chain K.context.fits K.context.typed before.cpu s.slots m.cpu m.latch m.mem
@@ -106,6 +107,7 @@ module _ (key : Key) (chain : List Activation) (s : AbsState) (m : Moment) (K : 
       value_stands env w (operand before w x) (machine.operand m w x) (operand_fits m w x M.bytes)
       (operand_for w x is).stands
 
+  -- what is known of an operand can be moved
   movable : (w : Width) (x : Source) → IsOperand x
       → IsMovable env before w (operand before w x) (machine.operand m w x)
   movable w x is = λ based quad c move.
@@ -115,6 +117,7 @@ module _ (key : Key) (chain : List Activation) (s : AbsState) (m : Moment) (K : 
 
   -- ---- results are in range
 
+  -- a base that an operation may move
   moved_base_valid : (op : AluOp) (v : AbsValue) (n : ℕ) (b : KnownBits) → IsValidValue v → AreBitsValid b
       → IsValidValue (known.moved_base before op v n b)
   moved_base_valid operation.Add v n b ok fits = shifted_valid cfg K.context.valid key v (signed n) ok
@@ -124,6 +127,7 @@ module _ (key : Key) (chain : List Activation) (s : AbsState) (m : Moment) (K : 
   moved_base_valid operation.Xor v n b ok fits = bits_valid cfg K.context.valid b fits
   moved_base_valid operation.Cmp v n b ok fits = bits_valid cfg K.context.valid b fits
 
+  -- by the test whether the base moves
   moved_or_valid : (test : Bool) (op : AluOp) (v : AbsValue) (o : Option ℕ) (b : KnownBits) → IsValidValue v
       → AreBitsValid b → IsValidValue (known.moved_or before test op v o b)
   moved_or_valid true op v (Some n) b ok fits = moved_base_valid op v n b ok fits
@@ -161,6 +165,7 @@ module _ (key : Key) (chain : List Activation) (s : AbsState) (m : Moment) (K : 
 
   -- ---- what is after an operation
 
+  -- the next instruction follows
   operated_next : (w : Width) (dest : Place) (reads : List Access) (f : ℕ) (r : Option ℕ)
       → IsWord (operated m w dest reads f r).cpu.rip
   operated_next w dest reads f (Some n) = K.next
@@ -218,6 +223,7 @@ module _ (key : Key) (chain : List Activation) (s : AbsState) (m : Moment) (K : 
     abbrev after : AluOp → Executed
     after o = operated m w dest reads (alu_flags o w x y m.cpu.flags) (alu_result o w x y)
 
+    -- by the test whether it is of a register with itself, and cancels it
     by_same : (t : Bool) → (cancels op && is_same_reg dest src) ≡ t
         → IsPlaced key chain s m K (if◌then◌else◌ {A = AbsChange} t
         (known.alu_change before op w dest known_zero known_zero) (known.alu_change before op w dest v u)).store

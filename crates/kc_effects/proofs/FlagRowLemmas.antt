@@ -32,6 +32,7 @@ use Rattle.kc_stack.specs.Rows.{IsRowCovered, CoversRow}
 use Rattle.kc_stack.proofs.PushLemmas.{seen}
 use Rattle.kc_effects.proofs.ArithGoesLemmas.{finds, goes_on}
 
+-- a branch goes on at a word
 either_word : (b : Bool) (x y : ℕ) → IsWord x → IsWord y → IsWord (if◌then◌else◌ {A = ℕ} b x y)
 either_word true x y one other = one
 either_word false x y one other = other
@@ -95,6 +96,7 @@ module _ (key : Key) (chain : List Activation) (s : AbsState) (m : Moment) (K : 
 
   -- ---- POPFQ
 
+  -- what is known of RSP can be moved
   rsp_moves : MovesStand env before (known_register before.cpu known.rsp) (register m.cpu rsp)
   rsp_moves c move =
       let r = register_is key chain s m K 4 in
