@@ -1,5 +1,5 @@
 -- Moves in the form of any row: their law says the same of what is after one, and each goes on at the next instruction.
-use Rattle.std.proofs.Common.{◌≡◌, List, sym, subst}
+use Rattle.std.proofs.Common.{List, sym, subst}
 use Rattle.kc_words.specs.declared.width.Width.{Width}
 use Rattle.kc_insn.specs.declared.insn.Insn.{Insn}
 use Rattle.kc_insn.specs.declared.insn.Insn.TheVariants.{Nop, Endbr64, Lfence, Mov, Lea, Xchg}
