@@ -1,6 +1,6 @@
 -- A C handler's edit of the user's saved frame where a state describes the machine while the handler runs, a law. This
 -- project's own. The places of the words: Intel SDM vol. 3A, "64-Bit Mode Stack Frame".
-use Rattle.std.specs.Prelude.{◌≡◌, ℕ, true, Option, Some, IfSome, slice_get}
+use Rattle.std.specs.Prelude.{◌≡◌, ℕ, Option, Some, IfSome, slice_get}
 use Rattle.kc_insn.specs.declared.insn.Insn.{Insn}
 use Rattle.kc_regions.specs.Description.{Description}
 use Rattle.kc_regions.specs.Valid.{IsValid}
@@ -22,10 +22,7 @@ use Rattle.kc_state.specs.declared.state.AbsState.{AbsState}
 use Rattle.kc_describes.specs.Describes.{Describes}
 use Rattle.kc_describes.specs.Row.{value_at}
 use Rattle.kc_describes.specs.Widths.{IsWord}
-use Rattle.kc_state.specs.declared.site.Site.{Site}
-
-abbrev pub body_of : ℕ → Site
-body_of at = record { at = at; inside = true }
+use Rattle.kc_calls.specs.Laws.{body_of}
 
 -- each edited word fits its register, as its type says
 pub record IsEditSet (edit : Edit) : Type 0 where
