@@ -77,6 +77,7 @@ address_down : (base depth : ℕ) (k : ℤ) → depth < 2 ^ 63
 address_down base depth k few =
     ap (λ z. word (base + z)) (offset_down k depth) ∙ sum_down base (cast_unsigned w64 k) depth few
 
+-- the bytes from depth bytes below a up to it
 below_bytes : (x a depth : ℕ) → a < 2 ^ 64 → depth ≤ a → a ≤ x + depth → x < a → InBytes x (below_address a depth) depth
 below_bytes x a depth fits some low high = omega (arith, fits, some, low, high)
 
@@ -96,9 +97,13 @@ edit_top w l =
     (λ k. cond_both (meets_word l 8 w || (meets_word (moved_up l 16) 8 w || meets_word (moved_up l 24) 8 w)) _ _ P
     (λ m. refl) (λ m. refl))))
 
+-- slot i may have a byte of the handler's part of its stack, where RSP points to l
+abbrev is_hit_from : Description → Key → Handler → Location → ℕ → Bool
+is_hit_from cfg key h l i = hits cfg key (location_stack cfg key (Some l)) (moved_down l h.stack) h.stack i
+
 module _ (cfg : Description) (key : Key) (h : Handler) (s : AbsState) (count : length s.slots ≡ slot_count) where
   abbrev hit : Location → ℕ → Bool
-  hit l i = hits cfg key (location_stack cfg key (Some l)) (moved_down l h.stack) h.stack i
+  hit l i = is_hit_from cfg key h l i
 
   abbrev after_use : Location → List AbsValue
   after_use l = redone (used cfg key l h.stack) 0 s.slots
@@ -167,7 +172,9 @@ module _ (cfg : Description) (valid : IsValid cfg) (key : Key) (chain : List Act
   pointer_by None named h = absurd (false≢true h)
 
   pub pointer_is : IsPointer
-  pointer_is = pointer_by (location_of key pointer) refl (and_parts _ (is_exact_at m true pointer (location_of key pointer)) exact).1
+  pointer_is =
+      let o = location_of key pointer in
+      pointer_by o refl (and_parts _ (is_exact_at m true pointer o) exact).1
 
   -- the return address lies in the stack, which has the handler's bytes below it
   record IsRoom : Type 0 where
@@ -244,7 +251,7 @@ module _ (cfg : Description) (valid : IsValid cfg) (key : Key) (chain : List Act
 
   -- a slot with such a byte is hit, and a slot that is hit is the top
   abbrev pub is_hit : ℕ → Bool
-  is_hit i = hit cfg key h s is.slots.1 pointer_is.location i
+  is_hit i = is_hit_from cfg key h pointer_is.location i
 
   pub free_is_hit : (i x : ℕ) (p : Location) → i < slot_count → word_of cfg key i ≡ Some p → x < 2 ^ 64
       → InBytes x (address_of base p) 8 → IsFree call h.stack region x → is_hit i ≡ true
