@@ -1,0 +1,4 @@
+pub mod EditMemoryLemmas
+pub mod EditValueLemmas
+pub mod EditSlotLemmas
+pub mod EditChainLemmas

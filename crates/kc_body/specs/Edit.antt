@@ -1,6 +1,6 @@
 -- A C handler's edit of the user's saved frame where a state describes the machine while the handler runs, a law. This
 -- project's own. The places of the words: Intel SDM vol. 3A, "64-Bit Mode Stack Frame".
-use Rattle.std.specs.Prelude.{◌≡◌, ℕ, List, Option, Some, IfSome, slice_get}
+use Rattle.std.specs.Prelude.{◌≡◌, ℕ, Option, Some, IfSome, slice_get}
 use Rattle.kc_insn.specs.declared.insn.Insn.{Insn}
 use Rattle.kc_regions.specs.Description.{Description}
 use Rattle.kc_regions.specs.Valid.{IsValid}
