@@ -164,12 +164,13 @@ module _ (edit : Edit) (cpu : Cpu) (count : length cpu.regs ≡ 16) where
 
 -- ---- the chain
 
+-- the activation with the edit made
+abbrev pub edited_one : Edit → Activation → Activation
+edited_one edit a = record a { due = edited_cpu edit a.due }
+
 module _ (cfg : Description) (key : Key) (edit : Edit) (a : Activation) (typed : IsActivation a)
     (user : a.saved.mode ≡ User) where
-  abbrev edited_one : Activation
-  edited_one = record a { due = edited_cpu edit a.due }
-
-  fits_edited : (user_gs : ℕ) → Fits cfg key user_gs a → Fits cfg key user_gs edited_one
+  fits_edited : (user_gs : ℕ) → Fits cfg key user_gs a → Fits cfg key user_gs (edited_one edit a)
   fits_edited user_gs F = record {
     rules = F.rules;
     kind = F.kind;
@@ -185,7 +186,7 @@ module _ (cfg : Description) (key : Key) (edit : Edit) (a : Activation) (typed :
     kernel = F.kernel;
   }
 
-  due_edited : AreEditsValid cfg edit → IsDue cfg a → IsDue cfg edited_one
+  due_edited : AreEditsValid cfg edit → IsDue cfg a → IsDue cfg (edited_one edit a)
   due_edited edits is =
       let due = is.user user in
       record {
@@ -196,10 +197,10 @@ module _ (cfg : Description) (key : Key) (edit : Edit) (a : Activation) (typed :
         );
       }
 
-  pub chain_edited : AreEditsValid cfg edit → ChainFits cfg key (a ∷ []) → ChainFits cfg key (edited_one ∷ [])
+  pub chain_edited : AreEditsValid cfg edit → ChainFits cfg key (a ∷ []) → ChainFits cfg key (edited_one edit a ∷ [])
   chain_edited edits F = record {
     fits = fits_edited a.saved.gs F.fits;
     one_user = (user, F.one_user.1);
     admitted = F.admitted;
-    due = All-cons (IsDue cfg) edited_one [] (due_edited edits (All-head (IsDue cfg) a [] F.due)) (All-nil (IsDue cfg));
+    due = All-cons (IsDue cfg) (edited_one edit a) [] (due_edited edits (All-head (IsDue cfg) a [] F.due)) (All-nil (IsDue cfg));
   }
