@@ -1,7 +1,7 @@
 -- The law of a handler's step. The turn is the step of the handler that runs, whose contract says what may come; a step
 -- that is done touched no guard, so the state describes what it leaves, first without the edit and then with it.
 use Rattle.std.proofs.Common.{◌≡◌, ℕ, true, false, Option, Some, IsSomeAnd, option_and_then, inl, inr, ◌⊎◌, sym, ap, ◌∙◌, subst}
-use Rattle.std.proofs.lemmas.Bool.{false≢true, cases_Bool}
+use Rattle.std.proofs.lemmas.Bool.{cases_Bool}
 use Rattle.kc_insn.specs.declared.insn.Insn.{Insn}
 use Rattle.kc_image.specs.Image.{Contents}
 use Rattle.kc_regions.specs.Description.{Description}
@@ -26,8 +26,9 @@ use Rattle.kc_state.specs.declared.state.AbsState.{AbsState}
 use Rattle.kc_describes.specs.Describes.{Describes}
 use Rattle.kc_calls.specs.Laws.{body_of}
 use Rattle.kc_calls.proofs.InsideLemmas.{IsRunning, running_of, like_described}
-use Rattle.kc_body.specs.Body.{IsBodySet, IsExactInside, IsBodyCovered, BodyIsCovered, BodyIsQuiet, PlainBodyIsCovered}
-use Rattle.kc_body.specs.Edit.{EditIsDescribed, edited_state}
+use Rattle.kc_body.specs.Body.{IsBodySet, IsExactInside, IsBodyCovered, BodyIsCovered}
+use Rattle.kc_body.specs.Edit.{edited_state}
+use Rattle.kc_body.proofs.EditLemmas.{edited_described}
 use Rattle.kc_body.proofs.QuietLemmas.{quiet_turn, no_words}
 use Rattle.kc_body.proofs.StackLemmas.{pointer_is}
 use Rattle.kc_body.proofs.TurnLemmas as step
@@ -77,7 +78,7 @@ module _ (cfg : Description) (valid : IsValid cfg) (key : Key) (at : ℕ) (insn 
       quiet_turn cfg valid key s S D.chain r.call r.handler r.running b typed may (frame_of cfg r.call) found n
       (subst (λ m. BreaksWith cfg found S (Body b) (turn m) n) r.mode h)
 
-  pub quiet : (n : ℕ) → Breaks cfg image S (Body b) n → ⊥
+  quiet : (n : ℕ) → Breaks cfg image S (Body b) n → ⊥
   quiet n h = judged_quiet h.found n h.broken
 
   -- an edit leaves a machine that the state describes
@@ -124,9 +125,8 @@ module _ (cfg : Description) (valid : IsValid cfg) (key : Key) (at : ℕ) (insn 
   pub step_covered : EditIsKept → IsBodyCovered cfg image key at insn len s S b
   step_covered edits = record { quiet = quiet; goes = goes edits }
 
--- a step without an edit is covered, and any step where edits are
-pub body_covered : EditIsDescribed → BodyIsCovered
-body_covered edit_described cfg image key at insn len s S b here valid is typed D exact allowed =
+pub body_covered : BodyIsCovered
+body_covered cfg image key at insn len s S b here valid is typed D exact allowed =
     let r = running_of cfg key at insn len s S D in
     let may = may_of cfg key at insn len s S b r here allowed in
     let file = step.file cfg valid key at insn len s is S D exact b typed r may in
@@ -134,7 +134,7 @@ body_covered edit_described cfg image key at insn len s S b here valid is typed 
     let pointer = pointer_is cfg valid key S.chain D.chain D.typed.chain s is r.call call.rsp file.rsp exact S.cpu
     r.handler r.running in
     step_covered cfg valid key at insn len s is S D exact b typed r here allowed image (λ edits D'.
-    edit_described cfg key at (Some (insn, len)) s (stepped S b) r.call b.edit valid is D' (record {
+    edited_described cfg key at (Some (insn, len)) s (stepped S b) r.call b.edit valid is D' (record {
       handler = r.handler;
       stack = r.running.stack.region;
       location = pointer.location;
@@ -147,12 +147,3 @@ body_covered edit_described cfg image key at insn len s S b here valid is typed 
       words = typed.edit;
       placed = pointer.named;
     }))
-
-pub body_quiet : BodyIsQuiet
-body_quiet cfg image key at insn len s S b here valid is typed D exact allowed =
-    quiet cfg valid key at insn len s is S D exact b typed (running_of cfg key at insn len s S D) here allowed image
-
-pub plain_covered : PlainBodyIsCovered
-plain_covered cfg image key at insn len s S b here valid is typed D exact allowed plain =
-    step_covered cfg valid key at insn len s is S D exact b typed (running_of cfg key at insn len s S D) here allowed
-    image (λ edits D'. absurd (false≢true (sym plain ∙ edits)))

@@ -140,8 +140,8 @@ module _ (cfg : Description) (valid : IsValid cfg) (key : Key) (at : ℕ) (insn 
       latches = D.spaces.latches;
     };
     slots =
-        slots_after cfg valid key S.chain D.chain D.typed.chain s is r.call call_typed.rsp file.rsp exact S.cpu r.handler
-        r.running S.mem.bytes b.writes may.writes D.slots;
+        slots_after cfg valid key S.chain D.chain D.typed.chain s is r.call call_typed.rsp file.rsp exact S.cpu
+        r.handler r.running S.mem.bytes b.writes may.writes D.slots;
     bare = D.bare;
     kernel = record { cs = D.kernel.cs; ss = D.kernel.ss; flags = may.flags };
     point = point S.cpu.mode r.mode runs (call_at S.cpu.mode r.mode D.point);

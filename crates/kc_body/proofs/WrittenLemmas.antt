@@ -90,8 +90,8 @@ module _ (cfg : Description) (valid : IsValid cfg) (key : Key) (chain : List Act
       → InBytes x (address_of base p) 8 → LiesIn cfg Plain x → ⊥
   data_outside i x p below e low within there =
       let r = region_in (λ z. z.kind ≡ Plain) (region_of cfg.regions x) there in
-      outside_slots cfg valid key env.user_gs (newest_of chain) F.fits (newest_base chain F.one_user typed) r.0 p i x low
-      below r.1 (other_kind r.0 Plain Area r.2 (λ f. absurd cc)) (other_kind r.0 Plain Stack r.2 (λ f. absurd cc))
+      outside_slots cfg valid key env.user_gs (newest_of chain) F.fits (newest_base chain F.one_user typed) r.0 p i x
+      low below r.1 (other_kind r.0 Plain Area r.2 (λ f. absurd cc)) (other_kind r.0 Plain Stack r.2 (λ f. absurd cc))
       (other_kind r.0 Plain Guard r.2 (λ f. absurd cc)) e within
 
   -- a byte that the handler may write is in no word of a slot that isn't hit
@@ -100,8 +100,8 @@ module _ (cfg : Description) (valid : IsValid cfg) (key : Key) (chain : List Act
   apart i x p w below e low within none (inl plain) same =
       data_outside i x p below e low within (subst (LiesIn cfg Plain) (sym same) plain)
   apart i x p w below e low within none (inr free) same =
-      false≢true (sym none ∙ own.free_is_hit cfg valid key chain F typed s is call fits rsp exact cpu h R i x p below e low
-      within (subst (IsFree call h.stack R.stack.region) (sym same) free))
+      false≢true (sym none ∙ own.free_is_hit cfg valid key chain F typed s is call fits rsp exact cpu h R i x p below e
+      low within (subst (IsFree call h.stack R.stack.region) (sym same) free))
 
   -- after the bytes that the handler writes each slot stands for its word
   pub slots_after : (m : Bytes) (ws : List (ℕ × ℕ)) → All (λ w. MayWrite cfg call h.stack R.stack.region w.0) ws

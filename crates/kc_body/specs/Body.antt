@@ -1,6 +1,6 @@
 -- What a step of a C handler leaves where a state describes the machine while the handler runs, a law. This project's
 -- own.
-use Rattle.std.specs.Prelude.{◌≡◌, ℕ, ◌<◌, ◌⊎◌, true, false, length, All, Option, Some}
+use Rattle.std.specs.Prelude.{◌≡◌, ℕ, ◌<◌, ◌⊎◌, true, length, All, Option, Some}
 use Rattle.kc_insn.specs.declared.insn.Insn.{Insn}
 use Rattle.kc_image.specs.Image.{Contents}
 use Rattle.kc_regions.specs.Description.{Description}
@@ -8,7 +8,7 @@ use Rattle.kc_regions.specs.Valid.{IsValid}
 use Rattle.kc_exec.specs.declared.state.State.{State}
 use Rattle.kc_events.specs.declared.turn.BodySet.{BodySet}
 use Rattle.kc_events.specs.declared.turn.Turn.TheVariants.{Body}
-use Rattle.kc_events.specs.Allowed.{IsAllowed, is_edit}
+use Rattle.kc_events.specs.Allowed.{IsAllowed}
 use Rattle.kc_events.specs.Run.{Breaks, Steps}
 use Rattle.kc_state.specs.AbsEffect.{moment_of}
 use Rattle.kc_state.specs.Conditions.{is_exact}
@@ -52,25 +52,4 @@ BodyIsCovered = (cfg : Description) (image : Contents) (key : Key) (at : ℕ) (i
     (S : State) (b : BodySet) (here : Option (Insn × ℕ)) → IsValid cfg → IsState s → IsBodySet b
     → Describes cfg key (body_of at) (Some (insn, len)) s S → IsExactInside cfg key s
     → IsAllowed cfg here S (Body b)
-    → IsBodyCovered cfg image key at insn len s S b
-
--- ---- until edits are covered
-
--- the step edits no word of the user's frame
-abbrev pub IsPlainBody : BodySet → Type 0
-IsPlainBody b = is_edit b.edit ≡ false
-
--- a handler's step that may come breaks nothing
-abbrev pub BodyIsQuiet : Type 0
-BodyIsQuiet = (cfg : Description) (image : Contents) (key : Key) (at : ℕ) (insn : Insn) (len : ℕ) (s : AbsState)
-    (S : State) (b : BodySet) (here : Option (Insn × ℕ)) → IsValid cfg → IsState s → IsBodySet b
-    → Describes cfg key (body_of at) (Some (insn, len)) s S → IsExactInside cfg key s
-    → IsAllowed cfg here S (Body b) → (n : ℕ) → ¬ Breaks cfg image S (Body b) n
-
--- a step without an edit is covered
-abbrev pub PlainBodyIsCovered : Type 0
-PlainBodyIsCovered = (cfg : Description) (image : Contents) (key : Key) (at : ℕ) (insn : Insn) (len : ℕ)
-    (s : AbsState) (S : State) (b : BodySet) (here : Option (Insn × ℕ)) → IsValid cfg → IsState s → IsBodySet b
-    → Describes cfg key (body_of at) (Some (insn, len)) s S → IsExactInside cfg key s
-    → IsAllowed cfg here S (Body b) → IsPlainBody b
     → IsBodyCovered cfg image key at insn len s S b

@@ -2,5 +2,7 @@
 #![tactic(auto)]
 
 mod body;
+mod edit;
 
 pub use body::ran;
+pub use edit::edited;

@@ -1,5 +1,5 @@
-use Rattle.kc_body.proofs.LawLemmas.{body_quiet, plain_covered}
+use Rattle.kc_body.proofs.LawLemmas.{body_covered}
 use Rattle.kc_body.proofs.body.ran.Goals as goal
 
 pub returns : goal.returns
-returns c = record { quiet = body_quiet; covered = plain_covered }
+returns c = record { covered = body_covered }
