@@ -1,7 +1,7 @@
 -- The chain after an edit. The newest activation interrupted the user, so it is the only one; the edit changes the
 -- processor that is due alone, which stays admitted. What is said of the saved processor stays, and no byte is live,
 -- since the user's RSP lies in no stack.
-use Rattle.std.proofs.Common.{◌≡◌, ℕ, zero, suc, ◌+◌, ◌-◌, ◌^◌, ◌<◌, ◌≤◌, ◌||◌, nat_eq, inl, inr, Bool, true, false, List, [], ◌∷◌, ◌++◌, length, get_or, set, All, Any, Option, Some, None, IfSome, IsSomeAnd, slice_index, refl, sym, ap, ◌∙◌, subst, arith}
+use Rattle.std.proofs.Common.{◌≡◌, ℕ, zero, suc, ◌-◌, ◌^◌, ◌<◌, ◌≤◌, ◌||◌, nat_eq, inl, inr, false, List, [], ◌∷◌, length, get_or, set, All, Option, Some, None, IfSome, IsSomeAnd, refl, sym, ap, ◌∙◌, arith}
 use Rattle.std.specs.Option.{unwrap_or}
 use Rattle.std.proofs.lemmas.Bool.{cases_lt, or_parts, eqb-false}
 use Rattle.std.proofs.lemmas.List.{get_or_append_left, get_or-append_right, get_or-set_same, get_or-set_other, length-set}
@@ -12,7 +12,7 @@ use Rattle.kc_cpu.specs.declared.cpu.Cpu.{Cpu}
 use Rattle.kc_cpu.specs.declared.cpu.Mode.TheVariants.{User}
 use Rattle.kc_exec.specs.declared.state.Activation.{Activation}
 use Rattle.kc_exec.specs.Admitted.{IsAdmitted, AreUserFlags}
-use Rattle.kc_exec.specs.Live.{IsLive, IsLiveFor}
+use Rattle.kc_exec.specs.Live.{IsLive}
 use Rattle.kc_exec.specs.Register.{register, rsp}
 use Rattle.kc_events.specs.declared.turn.Edit.{Edit}
 use Rattle.kc_events.specs.Allowed.{InterruptedUser, AreEditsValid}
@@ -124,7 +124,7 @@ module _ (edit : Edit) (cpu : Cpu) (count : length cpu.regs ≡ 16) where
     regs = (
       new_count,
       All-set IsWord cpu.regs 4 (unwrap_or edit.rsp (register cpu rsp))
-      (or_given IsWord edit.rsp (register cpu rsp) fit.rsp (word_at cpu.regs 4 is.regs.1)) is.regs.1,
+          (or_given IsWord edit.rsp (register cpu rsp) fit.rsp (word_at cpu.regs 4 is.regs.1)) is.regs.1,
     );
     rip = or_given IsWord edit.rip cpu.rip fit.rip is.rip;
     flags = or_given IsWord edit.flags cpu.flags fit.flags is.flags;
@@ -156,7 +156,10 @@ module _ (edit : Edit) (cpu : Cpu) (count : length cpu.regs ≡ 16) where
   edited_again saved e =
       let x = unwrap_or edit.rsp (register cpu rsp) in
       let from : new ≡ record saved {
-        regs = set (set saved.regs 4 (register cpu rsp)) 4 x; rip = new.rip; flags = new.flags } =
+        regs = set (set saved.regs 4 (register cpu rsp)) 4 x;
+        rip = new.rip;
+        flags = new.flags;
+      } =
       λ i. record (e i) { regs = set (e i).regs 4 x; rip = new.rip; flags = new.flags } in
       let regs : set (set saved.regs 4 (register cpu rsp)) 4 x ≡ set saved.regs 4 (register new rsp) =
       set_twice saved.regs 4 (register cpu rsp) x ∙ ap (set saved.regs 4) (sym new_rsp) in

@@ -2,22 +2,20 @@
 -- the state, which the call's changes leave as it is, holds in each slot what an edit may leave and names no edited
 -- word in a register. So each part stands for the edited words as it did for the old ones; what is said of the saved
 -- processor stays, and no byte is live.
-use Rattle.std.proofs.Common.{◌≡◌, ℕ, ◌+◌, ◌-◌, ◌%◌, ◌^◌, ◌<◌, ◌≤◌, true, false, not, cond, List, [], ◌∷◌, length, map, All, Option, Some, None, IsSomeAnd, slice_get, slice_index, refl, sym, ap, ◌∙◌, subst, arith}
+use Rattle.std.proofs.Common.{◌≡◌, ℕ, ◌+◌, ◌-◌, ◌^◌, ◌<◌, ◌≤◌, false, not, cond, List, [], ◌∷◌, map, Option, Some, None, IsSomeAnd, refl, sym, ap, ◌∙◌, subst, arith}
 use Rattle.std.specs.Prelude.{option_and_then}
 use Rattle.std.specs.Option.{unwrap_or, option_map_or}
 use Rattle.std.proofs.lemmas.List.{get_or-map}
 use Rattle.std.proofs.lemmas.List.Elements.{All-head, All-nil, All-cons}
-use Rattle.kc_bits.specs.Bits.{word}
 use Rattle.kc_frames.specs.Slots.{slot_count, redone}
 use Rattle.kc_insn.specs.declared.insn.Insn.{Insn}
 use Rattle.kc_regions.specs.Description.{Description}
 use Rattle.kc_regions.specs.Region.{stack_of, stack_at}
 use Rattle.kc_regions.specs.Valid.{IsValid}
-use Rattle.kc_regions.specs.declared.entry.Handler.{Handler}
 use Rattle.kc_regions.specs.declared.region.Region.{Region}
 use Rattle.kc_regions.proofs.LayoutLemmas.{laid}
 use Rattle.kc_cpu.specs.declared.cpu.Call.{Call}
-use Rattle.kc_cpu.specs.declared.cpu.Mode.TheVariants.{User, Inside}
+use Rattle.kc_cpu.specs.declared.cpu.Mode.TheVariants.{User}
 use Rattle.kc_exec.specs.declared.state.Activation.{Activation}
 use Rattle.kc_exec.specs.declared.state.State.{State}
 use Rattle.kc_exec.specs.Live.{IsLive}
@@ -26,11 +24,11 @@ use Rattle.kc_exec.specs.Register.{register, rsp}
 use Rattle.kc_events.specs.declared.turn.Edit.{Edit}
 use Rattle.kc_events.specs.Allowed.{FrameFits, stack_over}
 use Rattle.kc_events.specs.Attempt.{frame_of}
-use Rattle.kc_events.specs.Edits.{edited_cpu, with_edit}
+use Rattle.kc_events.specs.Edits.{edited_cpu}
 use Rattle.kc_value.specs.AbsValue.{AbsValue}
 use Rattle.kc_value.specs.Value.{Represents, value_top}
 use Rattle.kc_value.specs.declared.env.ValueEnv.{ValueEnv}
-use Rattle.kc_state.specs.Calls.{used, edited, tame, with_edits, frame_of as call_frame, called_at, called}
+use Rattle.kc_state.specs.Calls.{used, edited, tame, with_edits, frame_of as call_frame, called_at}
 use Rattle.kc_state.specs.Location.{location_of}
 use Rattle.kc_state.specs.Places.{word_of}
 use Rattle.kc_state.specs.State.{IsState}
@@ -38,9 +36,9 @@ use Rattle.kc_state.specs.declared.key.Key.{Key}
 use Rattle.kc_state.specs.declared.location.Location.{Location}
 use Rattle.kc_state.specs.declared.location.Location.TheVariants.{Number, Relative}
 use Rattle.kc_state.specs.declared.state.AbsState.{AbsState}
-use Rattle.kc_describes.specs.Chain.{newest_of, words_of, env_of}
+use Rattle.kc_describes.specs.Chain.{words_of, env_of}
 use Rattle.kc_describes.specs.Describes.{IsInsideAt, Describes}
-use Rattle.kc_describes.specs.Fits.{IsBaseOf, is_user_mode, ChainFits}
+use Rattle.kc_describes.specs.Fits.{IsBaseOf, is_user_mode}
 use Rattle.kc_describes.specs.Inside.{HasHandlerStack, IsHandlerRunning}
 use Rattle.kc_describes.specs.Row.{value_at, CallStands, FileStands}
 use Rattle.kc_describes.specs.Widths.{IsCall, IsMode, IsActivation}
@@ -273,7 +271,7 @@ module _ (cfg : Description) (valid : IsValid cfg) (key : Key) (at : ℕ) (found
               subst (IsInsideAt cfg key at found s (one ∷ []) S.cpu) (sym E.mode) (
                 (subst (IsInsideAt cfg key at found s (a ∷ []) S.cpu) E.mode D.point).0,
                 subst (λ o. IsSomeAnd o (IsHandlerRunning cfg key s (one ∷ []) S.cpu call)) (sym E.contract)
-                running_after,
+                    running_after,
               );
         }
 

@@ -1,10 +1,9 @@
 -- Memory with the edited words. The three words are apart, so each is read where it was written, and a word that is
 -- apart from all three is as it was; where a word isn't edited, what was there is read.
-use Rattle.std.proofs.Common.{◌≡◌, ℕ, ◌+◌, ◌-◌, ◌%◌, ◌^◌, ◌<◌, ◌≤◌, nat_lt, inl, inr, ◌||◌, true, false, List, [], ◌∷◌, ◌++◌, Option, Some, None, IfSome, refl, sym, ap, ◌∙◌, subst, arith}
-use Rattle.std.proofs.lemmas.Bool.{or_parts, le-ltb, lt-ltb, cases_lt, false≢true}
+use Rattle.std.proofs.Common.{◌≡◌, ℕ, ◌+◌, ◌%◌, ◌^◌, ◌<◌, ◌≤◌, nat_lt, inl, inr, false, List, [], ◌∷◌, ◌++◌, Option, Some, None, IfSome, refl, sym, ap, ◌∙◌, subst, arith}
+use Rattle.std.proofs.lemmas.Bool.{or_parts, lt-ltb, cases_lt, false≢true}
 use Rattle.std.specs.Option.{unwrap_or}
-use Rattle.kc_bits.specs.Bits.{word}
-use Rattle.kc_mem.specs.Memory.{Bytes, AreBytes, byte, read, write}
+use Rattle.kc_mem.specs.Memory.{Bytes, AreBytes, read, write}
 use Rattle.kc_regions.specs.Layout.{InBytes}
 use Rattle.kc_exec.specs.Operand.{plus}
 use Rattle.kc_events.specs.declared.turn.Edit.{Edit}

@@ -1,9 +1,9 @@
 -- Slots after an edit. A state that the call's changes leave as it is has in each slot what an edit leaves there: the
 -- join where the slot is one of the three words, the top where it meets one, and a value without an edited symbol
 -- elsewhere. The first stands for the word that is read after the edit, and the last for a word that stays.
-use Rattle.std.proofs.Common.{◌≡◌, ℕ, suc, ◌+◌, ◌-◌, ◌^◌, ◌<◌, ◌||◌, inl, inr, Bool, true, false, List, [], ◌∷◌, length, get_or, Option, Some, None, IfSome, refl, sym, ap, ◌∙◌, subst, arith}
+use Rattle.std.proofs.Common.{◌≡◌, ℕ, suc, ◌+◌, ◌^◌, ◌<◌, ◌||◌, Bool, true, false, List, [], ◌∷◌, length, get_or, Option, Some, None, IfSome, refl, sym, ap, ◌∙◌, subst, arith}
 use Rattle.std.specs.Option.{unwrap_or}
-use Rattle.std.proofs.lemmas.Bool.{cases_Bool, or_parts}
+use Rattle.std.proofs.lemmas.Bool.{or_parts}
 use Rattle.kc_frames.specs.Slots.{slot_count, redone}
 use Rattle.kc_regions.specs.Description.{Description}
 use Rattle.kc_regions.specs.Region.{stack_of}
@@ -20,7 +20,7 @@ use Rattle.kc_state.specs.Memory.{is_just, meets_word}
 use Rattle.kc_state.specs.Places.{word_of}
 use Rattle.kc_state.specs.declared.key.Key.{Key}
 use Rattle.kc_state.specs.declared.location.Location.{Location}
-use Rattle.kc_state.specs.declared.location.Location.TheVariants.{Number, Relative}
+use Rattle.kc_state.specs.declared.location.Location.TheVariants.{Number}
 use Rattle.kc_describes.specs.Places.{stack_spans, address_of, SlotsStand}
 use Rattle.kc_describes.specs.Row.{value_at}
 use Rattle.kc_describes.proofs.SlotLemmas.{get_or-redone}
@@ -28,7 +28,7 @@ use Rattle.kc_describes.proofs.StoreLemmas.{just_there}
 use Rattle.kc_describes.proofs.TwiceLemmas.{pick}
 use Rattle.kc_describes.proofs.ValueLemmas.{top_stands}
 use Rattle.kc_body.specs.Edit.{IsEditSet}
-use Rattle.kc_body.proofs.EditMemoryLemmas.{Apart, edited_memory, apart_words, rip_after, flags_after, rsp_after, other_after}
+use Rattle.kc_body.proofs.EditMemoryLemmas.{edited_memory, apart_words, rip_after, flags_after, rsp_after, other_after}
 use Rattle.kc_body.proofs.EditValueLemmas.{with_words, joined_after, tame_kept, rip_stands, flags_stands, rsp_stands}
 
 -- the words after the edit: the three edited ones, and all others as they were

@@ -1,10 +1,10 @@
 -- What values stand for once the saved RIP, RFLAGS or RSP is another number. A value without an edited symbol names
 -- what it named. A join with an edit has the edit's symbol or Plain, and the edit's bits and places or fewer: so it
 -- stands for the new word, and where its own word isn't edited, for the old one.
-use Rattle.std.proofs.Common.{◌≡◌, ℕ, ◌-◌, ◌^◌, ◌<◌, ◌≤◌, inl, inr, true, false, cond, List, get_or, Option, Some, None, IfSome, min, bit_and, bit_or, refl, sym, ap, ◌∙◌, subst, arith}
+use Rattle.std.proofs.Common.{◌≡◌, ℕ, ◌-◌, ◌^◌, ◌<◌, ◌≤◌, inl, inr, false, List, get_or, Option, Some, None, IfSome, min, bit_or, refl, sym, ap, ◌∙◌, subst, arith}
 use Rattle.std.specs.Int.{bit_at}
 use Rattle.std.specs.Option.{unwrap_or}
-use Rattle.std.proofs.lemmas.Bool.{cases_Bool, cases_lt, cases_eq, cond-true, cond-false, false≢true}
+use Rattle.std.proofs.lemmas.Bool.{cases_Bool, cases_lt, cases_eq, cond-true, cond-false}
 use Rattle.std.proofs.lemmas.Nat.{and_le_r}
 use Rattle.std.proofs.lemmas.Nat.Bits.{bit_at_and, bit_at_or, bit_at-lt, bit_at-zero, bit_at_above, bit_at_ones, bit_at-pow_other}
 use Rattle.kc_bits.specs.KnownBits.{KnownBits}
@@ -14,7 +14,6 @@ use Rattle.kc_words.specs.Range.{Range}
 use Rattle.kc_regions.specs.Description.{Description}
 use Rattle.kc_regions.specs.Region.{stack_of}
 use Rattle.kc_regions.specs.Valid.{IsValid}
-use Rattle.kc_exec.specs.declared.state.Activation.{Activation}
 use Rattle.kc_exec.specs.Admitted.{model_flags, AreUserFlags}
 use Rattle.kc_value.specs.AbsValue.{AbsValue}
 use Rattle.kc_value.specs.Made.{plain}
@@ -26,7 +25,6 @@ use Rattle.kc_value.specs.declared.env.ValueEnv.{ValueEnv}
 use Rattle.kc_value.specs.declared.symbol.Sym.{Sym}
 use Rattle.kc_value.specs.declared.symbol.Sym.TheVariants.{Plain, Base, Entry, UserGs}
 use Rattle.kc_state.specs.Calls.{edited_rip, edited_flags, edited_rsp, is_edited_word, is_edited_sym, tame}
-use Rattle.kc_describes.specs.Chain.{env_of}
 use Rattle.kc_describes.specs.Places.{stack_spans}
 use Rattle.kc_describes.proofs.ValueLemmas.{anywhere, lies_at, nothing_stands}
 
