@@ -205,5 +205,6 @@ module _ (cfg : Description) (key : Key) (edit : Edit) (a : Activation) (typed :
     fits = fits_edited a.saved.gs F.fits;
     one_user = (user, F.one_user.1);
     admitted = F.admitted;
-    due = All-cons (IsDue cfg) (edited_one edit a) [] (due_edited edits (All-head (IsDue cfg) a [] F.due)) (All-nil (IsDue cfg));
+    due = All-cons (IsDue cfg) (edited_one edit a) [] (due_edited edits (All-head (IsDue cfg) a [] F.due))
+        (All-nil (IsDue cfg));
   }

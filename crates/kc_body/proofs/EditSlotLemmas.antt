@@ -48,8 +48,8 @@ length-redone : {V : Type 0} (f : ℕ → V → V) (i : ℕ) (vs : List V) → l
 length-redone f i [] = refl
 length-redone f i (v ∷ vs) = ap suc (length-redone f (suc i) vs)
 
-module _ (cfg : Description) (valid : IsValid cfg) (env : ValueEnv) (stacks : env.stacks ≡ stack_spans cfg) (edit : Edit)
-    (edits : AreEditsValid cfg edit) (fit : IsEditSet edit) (new : List ℕ) (are : AreWordsEdited edit env.words new)
+module _ (cfg : Description) (valid : IsValid cfg) (env : ValueEnv) (stacks : env.stacks ≡ stack_spans cfg)
+    (edit : Edit) (edits : AreEditsValid cfg edit) (fit : IsEditSet edit) (new : List ℕ) (are : AreWordsEdited edit env.words new)
     (mem : Bytes) (at : ℕ) (whole : at + 40 < 2 ^ 64)
   where
     abbrev env_after : ValueEnv
@@ -112,8 +112,8 @@ module _ (cfg : Description) (valid : IsValid cfg) (env : ValueEnv) (stacks : en
 
     -- a word that meets none of the three stays
     unmet : (w : ℕ) → w < 2 ^ 64 → (meets_word (Number at) 8 (Some (Number w))
-        || (meets_word (Number (plus at 16)) 8 (Some (Number w)) || meets_word (Number (plus at 24)) 8 (Some (Number w))))
-        ≡ false
+        || (meets_word (Number (plus at 16)) 8 (Some (Number w))
+        || meets_word (Number (plus at 24)) 8 (Some (Number w)))) ≡ false
         → read mem_after w 8 ≡ read mem w 8
     unmet w fits h =
         let one = meets_word (Number at) 8 (Some (Number w)) in
@@ -145,7 +145,8 @@ module _ (cfg : Description) (valid : IsValid cfg) (env : ValueEnv) (stacks : en
             ∙ get_or-redone (edited cfg key (Number at)) value_top 0 i (redone f 0 slots) (omega (arith, inner, below))
             ∙ ap (λ j. edited cfg key (Number at) j (value_at (redone f 0 slots) i)) number
             ∙ ap (edited cfg key (Number at) i)
-            (get_or-redone f value_top 0 i slots (omega (arith, count, below)) ∙ ap (λ j. f j (value_at slots i)) number)
+            (get_or-redone f value_top 0 i slots (omega (arith, count, below))
+            ∙ ap (λ j. f j (value_at slots i)) number)
 
         -- the slots stand after the edit
         pub slots_edited : SlotsStand cfg key env slots mem → SlotsStand cfg key env_after slots mem_after

@@ -90,8 +90,8 @@ none_in : (x : ℕ) → Contains [] x → ⊥
 none_in x h = omega (arith, h.1)
 
 module _ (cfg : Description) (valid : IsValid cfg) (key : Key) (s : AbsState) (S : State)
-    (F : ChainFits cfg key S.chain) (call : Call) (h : Handler) (R : IsHandlerRunning cfg key s S.chain S.cpu call h) (b : BodySet)
-    (typed : IsBodySet b) (may : MayBody cfg S call h R.stack.region b) (frame : ℕ) where
+    (F : ChainFits cfg key S.chain) (call : Call) (h : Handler) (R : IsHandlerRunning cfg key s S.chain S.cpu call h)
+    (b : BodySet) (typed : IsBodySet b) (may : MayBody cfg S call h R.stack.region b) (frame : ℕ) where
   abbrev t : Attempt
   t = body_step S b frame
 
