@@ -49,7 +49,8 @@ length-redone f i [] = refl
 length-redone f i (v ∷ vs) = ap suc (length-redone f (suc i) vs)
 
 module _ (cfg : Description) (valid : IsValid cfg) (env : ValueEnv) (stacks : env.stacks ≡ stack_spans cfg)
-    (edit : Edit) (edits : AreEditsValid cfg edit) (fit : IsEditSet edit) (new : List ℕ) (are : AreWordsEdited edit env.words new)
+    (edit : Edit) (edits : AreEditsValid cfg edit) (fit : IsEditSet edit) (new : List ℕ)
+    (are : AreWordsEdited edit env.words new)
     (mem : Bytes) (at : ℕ) (whole : at + 40 < 2 ^ 64)
   where
     abbrev env_after : ValueEnv
