@@ -1,0 +1,10 @@
+pub mod EditMemoryLemmas
+pub mod EditValueLemmas
+pub mod EditSlotLemmas
+pub mod EditChainLemmas
+pub mod EditLemmas
+pub mod StackLemmas
+pub mod WrittenLemmas
+pub mod QuietLemmas
+pub mod TurnLemmas
+pub mod LawLemmas
