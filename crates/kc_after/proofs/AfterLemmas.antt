@@ -229,9 +229,12 @@ module _ (cfg : Description) (key : Key) (site : Site) (found : Option (Insn × 
       (λ i p w below e. elim (cases_Bool (loses cfg key o c i)) [
         | inl lost ↦ inl (cond-true (loses cfg key o c i) value_top w lost)
         | inr stays ↦
-            inr (cond-false (loses cfg key o c i) value_top w stays, λ x low inside.
-            C.kept x low
-            (slot_kept cfg valid key S.chain D.chain D.typed.chain c a o tops.0 tops.1 i x p below e stays low inside))
+            inr (
+              cond-false (loses cfg key o c i) value_top w stays,
+              λ x low inside.
+                  C.kept x low
+                  (slot_kept cfg valid key S.chain D.chain D.typed.chain c a o tops.0 tops.1 i x p below e stays low inside),
+            )
       ])
 
   either_top : (b : Bool) → cond b value_top value_top ≡ value_top
@@ -279,7 +282,7 @@ module _ (cfg : Description) (key : Key) (site : Site) (found : Option (Insn × 
   still : (h : Handler) → called cfg key h s ≡ s → called cfg key h out ≡ out
   still h before =
       relatched cfg key h t summary.latches o
-      ∙ ap (λ z. record z { latches = summary.latches }) (called_above cfg key h s t is also below (inl refl) before)
+      ∙ ap {A = AbsState} (λ z. record z { latches = summary.latches }) (called_above cfg key h s t is also below (inl refl) before)
 
   -- ---- the parts
 

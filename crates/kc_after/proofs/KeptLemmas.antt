@@ -206,12 +206,16 @@ module _ (cfg : Description) (valid : IsValid cfg) (key : Key) (chain : List Act
       → (bit_at c.words i == 1) ≡ false → Kept x
   in_word i x p few e inside h =
       let area = area_word cfg key i p valid few e in
-      inr (inr (inr (i, (record {
-        few = few;
-        at = area.at;
-        is = sym (fixed cfg key i few) ∙ e ∙ ap (λ z. Some z) area.is;
-        byte = subst (λ z. InBytes x (address_of base z) 8) area.is inside;
-      }), λ has. eqb-false (bit_at c.words i) 1 h has)))
+      inr (inr (inr (
+        i,
+        (record {
+          few = few;
+          at = area.at;
+          is = sym (fixed cfg key i few) ∙ e ∙ ap (λ z. Some z) area.is;
+          byte = subst (λ z. InBytes x (address_of base z) 8) area.is inside;
+        }),
+        λ has. eqb-false (bit_at c.words i) 1 h has,
+      )))
 
   in_stack_word : (i x t : ℕ) (p : Location) → i < slot_count → word_of cfg key i ≡ Some p → x < 2 ^ 64
       → InBytes x (address_of base p) 8 → stack_of cfg.regions x ≡ Some t → loses_word cfg key o c (Some p) ≡ false
