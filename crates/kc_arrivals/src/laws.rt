@@ -2,10 +2,13 @@
 
 ghost use Rattle.kc_arrivals.specs.Arrivals.{EventIsAmong, UserEventIsAmong};
 
-/// An event that the machine allows is one that the analysis counts with.
-pub fn arriving()
-    // At a site of kernel code, where the accesses of its instruction are permitted (C7).
-    ensures kernel { EventIsAmong }
-    // While the user runs.
-    ensures user { UserEventIsAmong }
+/// An event that the machine allows at a site of kernel code is one that the analysis counts with there,
+/// where the accesses of the site's instruction are permitted (C7).
+pub fn in_kernel()
+    ensures among { EventIsAmong }
+{}
+
+/// An event that the machine allows while the user runs is one that the analysis counts with.
+pub fn in_user()
+    ensures among { UserEventIsAmong }
 {}

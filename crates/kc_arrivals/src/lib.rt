@@ -3,4 +3,4 @@
 
 mod laws;
 
-pub use laws::arriving;
+pub use laws::{in_kernel, in_user};
