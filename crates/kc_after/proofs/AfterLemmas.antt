@@ -2,7 +2,7 @@
 -- them too. Slots that stay have kept words, by where RSP is: at a code site it is the processor's, and while a handler
 -- runs that of the call, at or above which the processor's is; at an offset it is in the key's stack, by C4. The changes
 -- of a call still leave the state as it is, since slots only rise and a call's changes don't read latches.
-use Rattle.std.proofs.Common.{◌≡◌, ℕ, suc, ◌^◌, ◌<◌, ◌≤◌, ◌&&◌, ◌==◌, not, inl, inr, Bool, true, false, cond, List, [], ◌∷◌, ◌++◌, length, All, Option, Some, None, IfSome, IsSomeAnd, slice_get, slice_index, pos, neg_ℤ, int_le, refl, sym, ap, ◌∙◌, subst, arith}
+use Rattle.std.proofs.Common.{◌≡◌, ℕ, suc, ◌^◌, ◌<◌, ◌≤◌, ◌&&◌, not, inl, inr, Bool, true, false, cond, List, [], ◌∷◌, length, All, Option, Some, None, IfSome, IsSomeAnd, slice_get, pos, neg_ℤ, int_le, refl, sym, ap, ◌∙◌, subst, arith}
 use Rattle.std.specs.Int.{bit_at}
 use Rattle.std.proofs.lemmas.Bool.{cases_eq, cases_Bool, cond-true, cond-false, cond_both, and_from, and_parts, eqb-true, false≢true}
 use Rattle.std.proofs.lemmas.Nat.Bits.{bit_at-pow_other}
@@ -35,10 +35,9 @@ use Rattle.kc_value.specs.declared.env.ValueEnv.{ValueEnv}
 use Rattle.kc_state.specs.AbsEffect.{moment_of}
 use Rattle.kc_state.specs.AbsReturn.{loses, kept, returned}
 use Rattle.kc_state.specs.Calls.{used, with_edits, frame_of, called_at, called}
-use Rattle.kc_state.specs.Conditions.{is_exact_at, is_exact}
+use Rattle.kc_state.specs.Conditions.{is_exact_at}
 use Rattle.kc_state.specs.Location.{location_of}
 use Rattle.kc_state.specs.Operand.{AbsMoment}
-use Rattle.kc_state.specs.Places.{word_of}
 use Rattle.kc_state.specs.Shift.{is_only_stack}
 use Rattle.kc_state.specs.State.{IsState}
 use Rattle.kc_state.specs.StateLaws.{state_laws}

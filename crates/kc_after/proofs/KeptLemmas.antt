@@ -1,14 +1,13 @@
 -- Each byte of the word of a slot that stays may not differ. A word of the TSS or of the configuration is outside the
 -- clobber. Any other lies in the zone of one stack: a byte in the guard is kept, one in a stack outside the clobber
 -- too, and in a clobbered stack the word is at or above RSP, so that its bytes are live with the new activation.
-use Rattle.std.proofs.Common.{◌≡◌, ℕ, zero, suc, ◌+◌, ◌-◌, ◌/◌, ◌%◌, ◌^◌, ◌<◌, ◌≤◌, ◌&&◌, ◌||◌, ◌==◌, nat_le, nat_lt, not, inl, inr, Bool, true, false, if◌then◌else◌, List, [], ◌∷◌, ◌++◌, All, Option, Some, None, ℤ, pos, int_le, refl, sym, ap, ◌∙◌, subst, arith}
+use Rattle.std.proofs.Common.{◌≡◌, ℕ, zero, suc, ◌+◌, ◌-◌, ◌/◌, ◌%◌, ◌^◌, ◌<◌, ◌≤◌, ◌&&◌, ◌==◌, nat_le, nat_lt, not, inl, inr, Bool, true, false, if◌then◌else◌, List, [], ◌∷◌, ◌++◌, All, Option, Some, None, ℤ, refl, sym, ap, ◌∙◌, subst, arith}
 use Rattle.std.specs.Prelude.{FitsSigned}
-use Rattle.std.specs.Int.{w64, bit_at, cast_unsigned}
+use Rattle.std.specs.Int.{w64, bit_at}
 use Rattle.std.proofs.lemmas.Int.{ints}
 use Rattle.std.proofs.lemmas.Bool.{cases_lt, cases_eq, lt-ltb, le-ltb, leb-true, eqb-true, eqb-false, and_parts, and_cases, or_parts, not-false, false≢true}
 use Rattle.std.proofs.lemmas.List.Quantifiers.{Any-push}
 use Rattle.kc_bits.specs.Bits.{word}
-use Rattle.kc_frames.specs.Clobber.{HasStack, HasWord}
 use Rattle.kc_frames.specs.ClobberSets.{ClobberSets}
 use Rattle.kc_frames.specs.Slots.{slot_count}
 use Rattle.kc_regions.specs.Description.{Description}
@@ -17,8 +16,7 @@ use Rattle.kc_regions.specs.Lookup.{tss_word}
 use Rattle.kc_regions.specs.Region.{stack_of}
 use Rattle.kc_regions.specs.Valid.{IsValid}
 use Rattle.kc_regions.proofs.LayoutLemmas.{laid}
-use Rattle.kc_rules.proofs.AnswerLemmas.{some_is}
-use Rattle.kc_exec.specs.Live.{IsLive, IsLiveFor}
+use Rattle.kc_exec.specs.Live.{IsLiveFor}
 use Rattle.kc_exec.specs.Register.{register, rsp}
 use Rattle.kc_exec.specs.declared.state.Activation.{Activation}
 use Rattle.kc_state.specs.AbsReturn.{is_clobbered, is_protected, is_offset_protected, loses_bytes, loses_word, loses}
@@ -37,7 +35,7 @@ use Rattle.kc_describes.proofs.LocationLemmas.{in_stack, stack_high, IsAt}
 use Rattle.kc_describes.proofs.OffsetLemmas.{upper_sum, whole_offset}
 use Rattle.kc_describes.proofs.PermissionLemmas.{int_le-true}
 use Rattle.kc_describes.proofs.SlotLemmas.{area_word, base_word_at, base_zone, marked_word_at, marked_zone}
-use Rattle.kc_after.specs.Kept.{fixed_word, IsInWord, IsKept}
+use Rattle.kc_after.specs.Kept.{fixed_word, IsKept}
 
 -- ---- the interrupted RSP
 

@@ -1,14 +1,14 @@
 -- Page faults of an instruction. The byte at fault is one of an access that both sides have. Where the place of the
 -- access isn't known, a fault may come; at a number the walk over its bytes meets the byte; at an offset the byte lies
 -- by C7 in the zone of the key's stack, and not in the guard, since guards never fault: so in the stack.
-use Rattle.std.proofs.Common.{◌≡◌, ℕ, zero, suc, ◌+◌, ◌^◌, ◌<◌, ◌&&◌, ◌||◌, inl, inr, Bool, true, false, List, [], ◌∷◌, All, Any, Option, Some, None, refl, sym, ap, ◌∙◌, subst, arith}
+use Rattle.std.proofs.Common.{◌≡◌, ℕ, zero, suc, ◌+◌, ◌^◌, ◌<◌, inl, inr, true, false, List, [], ◌∷◌, Any, Option, Some, None, refl, sym, ap, ◌∙◌, subst, arith}
 use Rattle.std.specs.List.{list_all, list_any}
 use Rattle.std.proofs.lemmas.Bool.{cases_eq, and_parts, or_left, or_right, false≢true}
 use Rattle.kc_bits.specs.Bits.{word}
 use Rattle.kc_regions.specs.Description.{Description}
 use Rattle.kc_regions.specs.Layout.{InBytes}
-use Rattle.kc_regions.specs.Permission.{passes, in_guard}
-use Rattle.kc_regions.specs.Region.{is_guard, region_of, stack_of, stack_at}
+use Rattle.kc_regions.specs.Permission.{passes}
+use Rattle.kc_regions.specs.Region.{is_guard, region_of}
 use Rattle.kc_regions.specs.Valid.{IsValid}
 use Rattle.kc_regions.specs.declared.region.Region.{Region}
 use Rattle.kc_regions.proofs.LayoutLemmas.{laid}
@@ -20,7 +20,6 @@ use Rattle.kc_state.specs.Operand.{AbsMoment}
 use Rattle.kc_state.specs.declared.key.Key.{Key}
 use Rattle.kc_state.specs.declared.location.Location.{Location}
 use Rattle.kc_state.specs.declared.location.Location.TheVariants.{Number, Relative}
-use Rattle.kc_describes.specs.Places.{address_of}
 use Rattle.kc_describes.proofs.AccessLemmas.{AccessAgrees, Agree}
 use Rattle.kc_describes.proofs.LocationLemmas.{in_stack, IsAt}
 use Rattle.kc_describes.proofs.PermissionLemmas.{relative_zone}

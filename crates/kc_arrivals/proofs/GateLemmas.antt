@@ -1,9 +1,8 @@
 -- The gates of events: one found for a vector has that vector, a valid description has the four that events need, and
 -- a latch that is clear may be.
-use Rattle.std.proofs.Common.{◌≡◌, ℕ, ◌<◌, ◌≤◌, ◌==◌, nat_eq, not, inl, inr, Bool, true, false, List, [], ◌∷◌, All, find, Option, Some, None, IsSome, refl, sym, ap, ◌∙◌, subst, arith}
+use Rattle.std.proofs.Common.{◌≡◌, ℕ, nat_eq, inl, inr, Bool, true, false, List, [], ◌∷◌, All, find, Option, Some, None, IsSome, refl, sym, ap, ◌∙◌, subst, arith}
 use Rattle.std.proofs.lemmas.Bool.{eqb-true, false≢true}
 use Rattle.std.proofs.lemmas.List.Elements.{All-head, All-tail}
-use Rattle.kc_regions.specs.CrossRules.{HasGate}
 use Rattle.kc_regions.specs.Description.{Description}
 use Rattle.kc_regions.specs.Lookup.{gate_of}
 use Rattle.kc_regions.specs.Ranges.{IsGateInRange}

@@ -3,8 +3,8 @@
 -- runs is the one that the site's instruction calls. At a code site the instruction at RIP is the site's.
 use Rattle.std.proofs.Common.{◌≡◌, ℕ, ◌+◌, ◌^◌, ◌<◌, ◌≤◌, ◌&&◌, ◌||◌, ◌==◌, ◌⊎◌, nat_le, not, inl, inr, Bool, true, false, if◌then◌else◌, List, [], ◌∷◌, All, Any, find, Option, Some, None, IsSome, IsSomeAnd, slice_get, refl, sym, ap, ◌∙◌, subst, arith}
 use Rattle.std.specs.Int.{bit_at}
-use Rattle.std.specs.List.{list_all, list_any}
-use Rattle.std.proofs.lemmas.Bool.{and_parts, and_from, or_left, or_right, le-leb, ne_eqb, lt-ltb, cases_Bool, eqb-true, false_from_ne_true, false≢true}
+use Rattle.std.specs.List.{list_all}
+use Rattle.std.proofs.lemmas.Bool.{and_parts, and_from, or_left, or_right, le-leb, ne_eqb, false≢true}
 use Rattle.std.proofs.lemmas.List.Elements.{All-head, All-tail}
 use Rattle.kc_bits.specs.Bits.{StandsFor, word}
 use Rattle.kc_bits.specs.KnownBits.{KnownBits}
@@ -13,11 +13,10 @@ use Rattle.kc_insn.proofs.Encoded.{spelled-encodable}
 use Rattle.kc_insn.specs.declared.insn.Insn.{Insn}
 use Rattle.kc_insn.specs.declared.insn.Insn.TheVariants.{Call as CallInsn, Iretq}
 use Rattle.kc_regions.specs.Description.{Description}
-use Rattle.kc_regions.specs.Lookup.{gate_of, handler_of}
+use Rattle.kc_regions.specs.Lookup.{gate_of}
 use Rattle.kc_regions.specs.Permission.{passes}
 use Rattle.kc_regions.specs.Ranges.{IsRegionInRange}
 use Rattle.kc_regions.specs.Region.{holds, is_guard, region_of}
-use Rattle.kc_regions.specs.Valid.{IsValid}
 use Rattle.kc_regions.specs.declared.entry.Gate.{Gate}
 use Rattle.kc_regions.specs.declared.entry.Handler.{Handler}
 use Rattle.kc_regions.specs.declared.region.Kind.{Kind}
@@ -26,23 +25,20 @@ use Rattle.kc_regions.specs.declared.region.Region.{Region}
 use Rattle.kc_rules.proofs.AnswerLemmas.{some_is}
 use Rattle.kc_rules.proofs.TestLemmas.{chosen}
 use Rattle.kc_cpu.specs.declared.cpu.Call.{Call}
-use Rattle.kc_cpu.specs.declared.cpu.Cpu.{Cpu}
 use Rattle.kc_cpu.specs.declared.cpu.Mode.{Mode}
 use Rattle.kc_cpu.specs.declared.cpu.Mode.TheVariants.{User, Code, Inside}
 use Rattle.kc_exec.specs.Breaks.{judged, break_of, effect}
 use Rattle.kc_exec.specs.Effect.{row}
 use Rattle.kc_exec.specs.Execution.{moment, data_accesses}
 use Rattle.kc_exec.specs.Moment.{Moment}
-use Rattle.kc_exec.specs.declared.access.Access.{Access}
 use Rattle.kc_exec.specs.declared.executed.Executed.{Executed}
 use Rattle.kc_exec.specs.declared.state.State.{State}
-use Rattle.kc_events.specs.Allowed as allowed
 use Rattle.kc_events.specs.Allowed.{IsAllowed, IsNoisyText, IsTouched, MayFault, Promises, TakesDebug, TakesFault, faulting}
 use Rattle.kc_events.specs.Fetched.{IsAt}
 use Rattle.kc_events.specs.declared.turn.Turn.{Turn}
 use Rattle.kc_events.specs.declared.turn.Turn.TheVariants.{Go, Irq, Nmi, Debug, Check, Fault, Trap, Syscall, User as UserTurn, Body, Leave}
 use Rattle.kc_state.specs.AbsEffect.{abs_row, moment_of}
-use Rattle.kc_state.specs.AbsEvents.{handler_called_by, lists, may_be_clear, may_be_open, takes_irq, takes_debug, takes_fault, may_fault, is_iretq, faults, arrivals_at, arrives, comes}
+use Rattle.kc_state.specs.AbsEvents.{handler_called_by, lists, may_be_clear, may_be_open, takes_irq, takes_debug, takes_fault, may_fault, is_iretq, arrivals_at, arrives, comes}
 use Rattle.kc_state.specs.Calls.{called_handler}
 use Rattle.kc_state.specs.Conditions.{accesses_of, may_at, permits_more}
 use Rattle.kc_state.specs.Moment.{cpu_of}
@@ -54,7 +50,7 @@ use Rattle.kc_describes.specs.Chain.{newest_of, env_of}
 use Rattle.kc_describes.specs.Describes.{IsInsideAt, IsAtPoint, Describes}
 use Rattle.kc_describes.specs.Inside.{IsCallAt, IsHandlerRunning}
 use Rattle.kc_describes.specs.Row.{FileStands}
-use Rattle.kc_describes.proofs.AccessLemmas.{Agree, accesses_agree}
+use Rattle.kc_describes.proofs.AccessLemmas.{accesses_agree}
 use Rattle.kc_describes.proofs.FrameLemmas.{code, code_file, seen_of}
 use Rattle.kc_describes.proofs.InsnLemmas.{has_operands}
 use Rattle.kc_describes.proofs.SlotLemmas.{region_fits}

@@ -1,7 +1,7 @@
 -- Events while the user runs: only NMIs and machine checks have conditions, by their latches. A vector that user code
 -- raises has no turn of its own, or is one from 32 on, since only such gates may be named.
-use Rattle.std.proofs.Common.{◌≡◌, ℕ, ◌<◌, ◌≤◌, ◌||◌, ◌==◌, ◌⊎◌, nat_le, not, inl, inr, Bool, true, false, cond, Option, Some, None, IsSome, IsSomeAnd, refl, sym, ap, ◌∙◌, subst, arith}
-use Rattle.std.proofs.lemmas.Bool.{cases_lt, cond_both, eqb-true, or_parts, eqb-false}
+use Rattle.std.proofs.Common.{◌≡◌, ℕ, ◌<◌, ◌||◌, ◌==◌, ◌⊎◌, inl, inr, Bool, true, false, Option, Some, None, IsSome, IsSomeAnd, refl, sym, ◌∙◌, subst, arith}
+use Rattle.std.proofs.lemmas.Bool.{cond_both, eqb-true, or_parts, eqb-false}
 use Rattle.kc_insn.specs.declared.insn.Insn.{Insn}
 use Rattle.kc_regions.specs.Description.{Description}
 use Rattle.kc_regions.specs.Lookup.{gate_of}
