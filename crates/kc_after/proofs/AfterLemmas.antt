@@ -1,7 +1,7 @@
 -- The state after an event's return, part by part. Processor and chain are as they were, and what the state says of
 -- them too. Slots that stay have kept words, by where RSP is: at a code site it is the processor's, and while a handler
--- runs that of the call, at or above which the processor's is; at an offset it is in the key's stack, by C4. The changes
--- of a call still leave the state as it is, since slots only rise and a call's changes don't read latches.
+-- runs that of the call, at or below which the processor's is; at an offset it is in the key's stack, by C4. The
+-- changes of a call still leave the state as it is, since slots only rise and a call's changes don't read latches.
 use Rattle.std.proofs.Common.{◌≡◌, ℕ, suc, ◌^◌, ◌<◌, ◌≤◌, ◌&&◌, not, inl, inr, Bool, true, false, cond, List, [], ◌∷◌, length, All, Option, Some, None, IfSome, IsSomeAnd, slice_get, pos, neg_ℤ, int_le, refl, sym, ap, ◌∙◌, subst, arith}
 use Rattle.std.specs.Int.{bit_at}
 use Rattle.std.proofs.lemmas.Bool.{cases_eq, cases_Bool, cond-true, cond-false, cond_both, and_from, and_parts, eqb-true, false≢true}
@@ -232,7 +232,8 @@ module _ (cfg : Description) (key : Key) (site : Site) (found : Option (Insn × 
               cond-false (loses cfg key o c i) value_top w stays,
               λ x low inside.
                   C.kept x low
-                  (slot_kept cfg valid key S.chain D.chain D.typed.chain c a o tops.0 tops.1 i x p below e stays low inside),
+                  (slot_kept cfg valid key S.chain D.chain D.typed.chain c a o tops.0 tops.1 i x p below e stays low
+                  inside),
             )
       ])
 
@@ -281,7 +282,8 @@ module _ (cfg : Description) (key : Key) (site : Site) (found : Option (Insn × 
   still : (h : Handler) → called cfg key h s ≡ s → called cfg key h out ≡ out
   still h before =
       relatched cfg key h t summary.latches o
-      ∙ ap {A = AbsState} (λ z. record z { latches = summary.latches }) (called_above cfg key h s t is also below (inl refl) before)
+      ∙ ap {A = AbsState} (λ z. record z { latches = summary.latches })
+      (called_above cfg key h s t is also below (inl refl) before)
 
   -- ---- the parts
 

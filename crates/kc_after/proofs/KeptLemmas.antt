@@ -178,7 +178,8 @@ module _ (cfg : Description) (valid : IsValid cfg) (key : Key) (chain : List Act
         let w = base_word_at cfg valid key (user_gs_of chain) (newest_of chain) F.fits base_fits i p up high e in
         let event : (newest_of chain).syscall ≡ false = F.fits.kind ∙ w.event in (
           (F.fits.frame event).stack,
-          base_zone cfg valid key (user_gs_of chain) (newest_of chain) F.fits base_fits i x p event up high e low inside,
+          base_zone cfg valid key (user_gs_of chain) (newest_of chain) F.fits base_fits i x p event up high e low
+              inside,
         )
     | inr past ↦
         let m = marked_word_at cfg key i p valid past e in (m.stack, marked_zone cfg i x base p m low inside)

@@ -37,7 +37,8 @@ IsInOtherWord cfg clobber x = (w : ℕ) × IsInWord cfg w x × ¬ HasWord clobbe
 -- The byte at x may not differ: it is live, lies in a guard, or in a stack or a word that isn't in the clobber.
 abbrev pub IsKept : Description → ClobberSets → List Activation → ℕ → Type 0
 IsKept cfg clobber chain x =
-    IsLive cfg chain x ⊎ ((in_guard cfg.regions x ≡ true) ⊎ (IsInOtherStack cfg clobber x ⊎ IsInOtherWord cfg clobber x))
+    IsLive cfg chain x ⊎ ((in_guard cfg.regions x ≡ true)
+    ⊎ (IsInOtherStack cfg clobber x ⊎ IsInOtherWord cfg clobber x))
 
 -- no byte that may not differ does
 abbrev pub Keeps : Description → ClobberSets → List Activation → Bytes → Bytes → Type 0

@@ -51,7 +51,8 @@ module _ (cfg : Description) (valid : IsValid cfg) (key : Key) (base : ℕ) (m :
       let K = is.0.1 in
       let may_key = subst (λ z. may_at (record m { d = z }) (Some (Relative k)) l.size l.touch ≡ true) of_cfg
       h in
-      let may_both = subst (λ z. may_at (record m { d = cfg; key = z }) (Some (Relative k)) l.size l.touch ≡ true) of_key
+      let may_both = subst (λ z. may_at (record m { d = cfg; key = z }) (Some (Relative k)) l.size l.touch ≡ true)
+      of_key
       may_key in
       let zone = relative_zone cfg valid key base K m.cpu.map k l.size x l.touch is.0.0 may_both low
       (subst (λ z. InBytes x z l.size) (sym is.1) inside) in

@@ -26,12 +26,16 @@ clear_latch Yes false stands clear = absurd (false≢true stands)
 pub found_gate : (gates : List Gate) (v : ℕ) (g : Gate) → gate_of gates v ≡ Some g → All IsGateInRange gates
     → (g.vector ≡ v) × IsGateInRange g
 found_gate [] v g e all = absurd cc
-found_gate (x ∷ xs) v g e all = elim (chosen (nat_eq x.vector v) (Some x) (find (λ z. nat_eq z.vector v) xs) (Some g) e) [
-  | inl h ↦
-      let same = some_is x g h.1 in
-      (sym (ap (λ z. z.vector) same) ∙ eqb-true x.vector v h.0, subst IsGateInRange same (All-head IsGateInRange x xs all))
-  | inr h ↦ found_gate xs v g h.1 (All-tail IsGateInRange x xs all)
-]
+found_gate (x ∷ xs) v g e all = elim (chosen (nat_eq x.vector v) (Some x) (find (λ z. nat_eq z.vector v) xs)
+    (Some g) e) [
+      | inl h ↦
+          let same = some_is x g h.1 in (
+            sym (ap (λ z. z.vector) same) ∙ eqb-true x.vector v h.0,
+            subst IsGateInRange same
+                (All-head IsGateInRange x xs all),
+          )
+      | inr h ↦ found_gate xs v g h.1 (All-tail IsGateInRange x xs all)
+    ]
 
 -- what is true of each gate with this vector is true of the one that is there
 pub by_gate : (test : Gate → Bool) (gates : List Gate) (v : ℕ) (o : Option Gate) → gate_of gates v ≡ o → IsSome o

@@ -137,7 +137,8 @@ module _ (cfg : Description) (image : Contents) (key : Key) (site : Site) (insn 
 
   irq_taken : bit_at S.cpu.flags 9 ≡ 1 → S.latch.shadow ≡ false → takes_irq cfg site s insn ≡ true
   irq_taken set gap =
-      and_from (may_be_clear s.latches.shadow) _ (clear_latch s.latches.shadow S.latch.shadow D.spaces.latches.shadow gap)
+      and_from (may_be_clear s.latches.shadow) _
+      (clear_latch s.latches.shadow S.latch.shadow D.spaces.latches.shadow gap)
       (open_by site.inside set D.point)
 
   -- ---- debug exceptions

@@ -23,7 +23,7 @@ use Rattle.kc_describes.specs.Describes.{Describes}
 use Rattle.kc_describes.specs.User.{UserDescribes}
 use Rattle.kc_describes.proofs.InsnLemmas.{HasDisps}
 
--- the vector of a turn, where it is an event that goes through a gate: SDM vol. 3A, "Exceptions and Interrupts Reference"
+-- the vector of a turn, where it is an event that goes through a gate: SDM vol. 3A, "Exception and Interrupt Vectors"
 abbrev pub vector_of : Turn → Option ℕ
 vector_of (Irq v) = Some v
 vector_of Nmi = Some 2
