@@ -1,0 +1,4 @@
+pub mod GateLemmas
+pub mod UserLemmas
+pub mod FaultLemmas
+pub mod KernelLemmas
