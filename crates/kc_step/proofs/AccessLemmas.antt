@@ -4,7 +4,6 @@ use Rattle.std.proofs.Common.{◌≡◌, ℕ, zero, suc, ◌^◌, ◌<◌, ◌&&
 use Rattle.std.specs.List.{list_all, list_any}
 use Rattle.std.proofs.lemmas.Bool.{cases_eq, and_parts, or_parts, or_cases, not-true, false≢true}
 use Rattle.std.proofs.lemmas.List.Elements.{All-nil, All-cons, All-head, All-tail}
-use Rattle.kc_insn.proofs.Encoded.{spelled-encodable}
 use Rattle.kc_insn.specs.declared.insn.Insn.{Insn}
 use Rattle.kc_insn.specs.declared.insn.Insn.TheVariants.{Mov, Lea, Xchg, Push, Pop, Alu, Test, Bit, Iretq}
 use Rattle.kc_insn.specs.declared.insn.Source.{Source}
@@ -49,17 +48,19 @@ use Rattle.kc_describes.proofs.QuietLemmas.{IsQuiet, quiet_all}
 use Rattle.kc_returns.proofs.FetchLemmas.{fetch_quiet}
 use Rattle.kc_system.specs.Forbidden.{AreUnguarded, PassesConditions}
 use Rattle.kc_system.specs.System.{known_moment, IsKernelMoment}
-use Rattle.kc_step.specs.Step.{HasDisp, HasFields, IsAtInsn}
+use Rattle.kc_stack.specs.Rows.{FitsSource, FitsTypes, IsSpelled}
+use Rattle.kc_effects.proofs.SpelledLemmas.{found_is_spelled}
+use Rattle.kc_step.specs.Step.{IsAtInsn}
 use Rattle.kc_step.proofs.PassLemmas.{PassesAll}
 
 -- ---- operands
 
-disp_of : (x : Source) → HasDisp x → spelled.HasDisp x
+disp_of : (x : Source) → FitsSource x → spelled.HasDisp x
 disp_of (source.Reg r) h = tt
 disp_of (source.Mem a) h = h
 disp_of (source.Imm z) h = tt
 
-pub disps_of : (insn : Insn) → HasFields insn → spelled.HasDisps insn
+disps_of : (insn : Insn) → FitsTypes insn → spelled.HasDisps insn
 disps_of (Mov w dest src) h = (disp_of (source_of dest) h.0, disp_of src h.1)
 disps_of (Lea w dest src) h = h
 disps_of (Xchg w dest src) h = disp_of (source_of dest) h
@@ -67,7 +68,7 @@ disps_of (Push src) h = disp_of src h
 disps_of (Pop dest) h = disp_of (source_of dest) h
 disps_of (Alu op w dest src) h = (disp_of (source_of dest) h.0, disp_of src h.1)
 disps_of (Test w dest src) h = (disp_of (source_of dest) h.0, disp_of src h.1)
-disps_of (Bit op w dest number) h = disp_of (source_of dest) h
+disps_of (Bit op w dest number) h = disp_of (source_of dest) h.0
 disps_of insn h = tt
 
 -- ---- guards
@@ -149,9 +150,12 @@ module _ (cfg : Description) (image : Contents) (key : Key) (at : ℕ) (insn : I
   pub seen : IsSeen cfg key S.chain (cpu_of s) s.slots S.cpu S.mem.bytes there.next
   seen = seen_of cfg key at there.next (Some (insn, len)) s S H.state next_fits H.described
 
+  -- it has a spelling, since the image spells it
+  pub fits : IsSpelled insn
+  fits = found_is_spelled image at insn len H.spelled
+
   pub operands : HasOperands insn
-  operands =
-      has_operands insn (spelled-encodable H.spelled.0 at insn H.spelled.3) (disps_of insn H.fields)
+  operands = has_operands insn fits.encodable (disps_of insn fits.fits)
 
   -- both sides agree on the data accesses
   pub agree : (insn ≡ Iretq → ⊥)

@@ -40,7 +40,8 @@ use Rattle.kc_returns.proofs.FetchLemmas.{one_found, decodable}
 use Rattle.kc_returns.proofs.PassLemmas.{step_passes}
 use Rattle.kc_returns.proofs.WholeLemmas.{return_covered}
 use Rattle.kc_system.proofs.LawLemmas.{breaks_nothing}
-use Rattle.kc_step.specs.Step.{IsNoReturn, IsAtInsn, StepBreaksNothing}
+use Rattle.kc_effects.specs.Effects.{IsNoReturn}
+use Rattle.kc_step.specs.Step.{IsAtInsn, StepBreaksNothing}
 use Rattle.kc_step.proofs.PassLemmas.{PassesAll, IsAnswer, answered}
 use Rattle.kc_step.proofs.AccessLemmas.{there, before, at_fits, kernel, all_quiet, open_data, conditions}
 

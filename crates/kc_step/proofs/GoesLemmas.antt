@@ -37,7 +37,8 @@ use Rattle.kc_describes.proofs.FrameLemmas.{after_row}
 use Rattle.kc_moves.specs.Moves.{StoreAgrees}
 use Rattle.kc_calls.specs.Laws.{code_at}
 use Rattle.kc_calls.proofs.InsideLemmas.{like_described}
-use Rattle.kc_step.specs.Step.{IsNoReturn, IsAtInsn}
+use Rattle.kc_effects.specs.Effects.{IsNoReturn}
+use Rattle.kc_step.specs.Step.{IsAtInsn}
 use Rattle.kc_step.proofs.PassLemmas.{PassesAll}
 use Rattle.kc_step.proofs.AccessLemmas.{before}
 use Rattle.kc_step.proofs.BreakLemmas as step
@@ -58,7 +59,7 @@ pub record RunsOnAt (cfg : Description) (chain : List Activation) (out : AbsStat
     pub store : StoreAgrees cfg chain made done.write
 
 -- the state after an instruction, by its end
-abbrev left_by : State → Executed → ExecEnd → State
+abbrev pub left_by : State → Executed → ExecEnd → State
 left_by S done end = record S {
   cpu = if is_return end then record done.cpu { mode = mode_below S.chain done.cpu.mode } else done.cpu;
   latch = done.latch;

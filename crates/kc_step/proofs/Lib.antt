@@ -5,4 +5,5 @@ pub mod StoreLemmas
 pub mod SlotLemmas
 pub mod BytesLemmas
 pub mod GoesLemmas
-pub mod FallLemmas
+pub mod CallStepLemmas
+pub mod CoveredLemmas

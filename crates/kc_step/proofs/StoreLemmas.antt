@@ -40,7 +40,8 @@ use Rattle.kc_state.specs.declared.state.AbsState.{AbsState}
 use Rattle.kc_state.specs.declared.succ.Succ.{Succ}
 use Rattle.kc_describes.specs.Chain.{newest_of}
 use Rattle.kc_describes.proofs.AccessLemmas.{AccessAgrees, Agree}
-use Rattle.kc_step.specs.Step.{IsNoReturn, IsAtInsn, IsStoreAt, MakesStore, StepMakesStore}
+use Rattle.kc_effects.specs.Effects.{IsNoReturn}
+use Rattle.kc_step.specs.Step.{IsAtInsn, IsStoreAt, MakesStore, StepMakesStore}
 use Rattle.kc_step.proofs.PassLemmas.{PassesAll}
 use Rattle.kc_step.proofs.AccessLemmas.{there, before, agree}
 use Rattle.kc_step.proofs.BreakLemmas.{which, is_answer}

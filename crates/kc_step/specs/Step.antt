@@ -1,12 +1,7 @@
 -- The step of one instruction, this project's own: what the abstract step says of the machine's.
-use Rattle.std.specs.Prelude.{◌≡◌, ℕ, ◌+◌, true, ◌⊎◌, Option, Some, None, Ok, FitsSigned}
-use Rattle.std.specs.Int.{w32}
+use Rattle.std.specs.Prelude.{◌≡◌, ℕ, ◌+◌, true, Option, Some, None, Ok}
 use Rattle.kc_bits.specs.Bits.{word}
 use Rattle.kc_insn.specs.declared.insn.Insn.{Insn}
-use Rattle.kc_insn.specs.declared.insn.Insn.TheVariants.{Mov, Lea, Xchg, Push, Pop, Alu, Test, Bit, Jcc, Jmp, Call, Iretq, Sysretq}
-use Rattle.kc_insn.specs.declared.insn.Source.{Source}
-use Rattle.kc_insn.specs.declared.insn.Source.TheVariants as source
-use Rattle.kc_insn.specs.Fields.{source_of}
 use Rattle.kc_image.specs.Image.{Contents}
 use Rattle.kc_regions.specs.Description.{Description}
 use Rattle.kc_regions.specs.Valid.{IsValid}
@@ -18,7 +13,7 @@ use Rattle.kc_exec.specs.declared.access.Write.{Write}
 use Rattle.kc_exec.specs.declared.state.State.{State}
 use Rattle.kc_events.specs.declared.turn.Turn.TheVariants.{Go}
 use Rattle.kc_events.specs.Fetched.{IsAt}
-use Rattle.kc_events.specs.Run.{Breaks, Steps}
+use Rattle.kc_events.specs.Run.{Breaks}
 use Rattle.kc_state.specs.AbsEffect.{AbsStore, abs_row, moment_of}
 use Rattle.kc_state.specs.AbsStep.{abs_step}
 use Rattle.kc_state.specs.Access.{may_bytes}
@@ -27,39 +22,12 @@ use Rattle.kc_state.specs.declared.key.Key.{Key}
 use Rattle.kc_state.specs.declared.location.Location.{Location}
 use Rattle.kc_state.specs.declared.state.AbsState.{AbsState}
 use Rattle.kc_state.specs.declared.succ.Succ.{Succ}
-use Rattle.kc_state.specs.declared.succ.Succ.TheVariants.{Falls}
 use Rattle.kc_describes.specs.Chain.{newest_of}
 use Rattle.kc_describes.specs.Describes.{Describes}
 use Rattle.kc_describes.specs.Places.{address_of}
-use Rattle.kc_describes.specs.Widths.{IsWord}
 use Rattle.kc_calls.specs.Laws.{code_at}
-use Rattle.kc_moves.specs.Moves.{CoversMove}
 
 -- ---- before
-
--- an instruction that is no return
-pub record IsNoReturn (insn : Insn) : Type 0 where
-  pub iretq : insn ≡ Iretq → ⊥
-  pub sysretq : insn ≡ Sysretq → ⊥
-
--- displacements are signed numbers of 32 bits and targets are addresses, as their types say
-abbrev pub HasDisp : Source → Type 0
-HasDisp (source.Mem a) = FitsSigned w32 a.disp
-HasDisp _ = Unit {0}
-
-abbrev pub HasFields : Insn → Type 0
-HasFields (Mov w dest src) = HasDisp (source_of dest) × HasDisp src
-HasFields (Lea w dest src) = FitsSigned w32 src.disp
-HasFields (Xchg w dest src) = HasDisp (source_of dest)
-HasFields (Push src) = HasDisp src
-HasFields (Pop dest) = HasDisp (source_of dest)
-HasFields (Alu op w dest src) = HasDisp (source_of dest) × HasDisp src
-HasFields (Test w dest src) = HasDisp (source_of dest) × HasDisp src
-HasFields (Bit op w dest number) = HasDisp (source_of dest)
-HasFields (Jcc code target) = IsWord target
-HasFields (Jmp target) = IsWord target
-HasFields (Call target) = IsWord target
-HasFields insn = Unit {0}
 
 -- An instruction is next: the image spells it, in text that may be executed (C5), and the state describes the machine.
 pub record IsAtInsn (cfg : Description) (image : Contents) (key : Key) (at : ℕ) (insn : Insn) (len : ℕ) (s : AbsState)
@@ -67,7 +35,6 @@ pub record IsAtInsn (cfg : Description) (image : Contents) (key : Key) (at : ℕ
   where
     pub valid : IsValid cfg
     pub state : IsState s
-    pub fields : HasFields insn
     pub spelled : IsAt image at (Some (insn, len))
     pub text : may_bytes cfg s.map Fetch at len ≡ true
     pub described : Describes cfg key (code_at at) (Some (insn, len)) s S
@@ -102,18 +69,3 @@ StepMakesStore = (cfg : Description) (image : Contents) (key : Key) (at : ℕ) (
     → abs_step cfg key s insn (word (at + len)) ≡ Ok (succ, out)
     → MakesStore (newest_of S.chain).base (abs_row (moment_of cfg key s (word (at + len))) insn).store
     (effect (moment cfg S.cpu S.latch S.mem.bytes len) insn).write
-
--- ---- where the program goes on
-
--- a step that the machine doesn't stop goes on at the next instruction, where the abstract step's state describes it,
--- whichever instruction is found there
-abbrev pub StepFallsThrough : Insn → Type 0
-StepFallsThrough insn = (cfg : Description) (image : Contents) (key : Key) (at len : ℕ) (s : AbsState) (S : State)
-    (succ : Succ) (out : AbsState) → IsAtInsn cfg image key at insn len s S
-    → abs_step cfg key s insn (word (at + len)) ≡ Ok (succ, out) → (T : State) → Steps cfg image S Go T
-    → (T.stopped ≡ true)
-    ⊎ ((succ ≡ Falls) × ((found : Option (Insn × ℕ)) → Describes cfg key (code_at (word (at + len))) found out T))
-
--- an instruction that moves values, as the law of moves says, does
-abbrev pub MovesFallThrough : Type 0
-MovesFallThrough = (insn : Insn) → CoversMove insn → IsNoReturn insn → StepFallsThrough insn

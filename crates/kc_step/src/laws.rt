@@ -1,6 +1,7 @@
 //! What the abstract step of an instruction says of the machine's.
 
-ghost use Rattle.kc_step.specs.Step.{StepBreaksNothing, StepMakesStore, MovesFallThrough};
+ghost use Rattle.kc_step.specs.Covered.{StepIsCovered};
+ghost use Rattle.kc_step.specs.Step.{StepBreaksNothing, StepMakesStore};
 
 /// Where the abstract step of an instruction has an answer, the machine's step breaks nothing, whichever
 /// instruction it is, and what it writes is the abstract store.
@@ -9,8 +10,7 @@ pub fn quiet()
     ensures store { StepMakesStore }
 {}
 
-/// An instruction that moves values goes on at the next one, and the abstract step's state describes the
-/// machine there, unless it stops.
-pub fn moved()
-    ensures falls { MovesFallThrough }
+/// And the machine stops or goes on where the answer says, and the answered state describes it there.
+pub fn stepped()
+    ensures covered { StepIsCovered }
 {}

@@ -3,4 +3,4 @@
 
 mod laws;
 
-pub use laws::{moved, quiet};
+pub use laws::{quiet, stepped};
