@@ -26,8 +26,9 @@ use Rattle.kc_step.specs.Step.{IsAtInsn, MakesStore}
 abbrev pub DescribesAt : Description → Key → ℕ → AbsState → State → Type 0
 DescribesAt cfg key at out T = (found : Option (Insn × ℕ)) → Describes cfg key (code_at at) found out T
 
--- The machine T goes on where the abstract step's answer says: at an address, in the handler that the instruction called,
--- or in the context that the return gives back. The instruction has `len` bytes at `at`, where the machine was S.
+-- The machine T goes on where the abstract step's answer says: at an address, in the handler that the instruction
+-- called, or in the context that the return gives back. S is the machine before, where the instruction has `len` bytes
+-- at `at`.
 abbrev pub GoesOn : Description → Key → ℕ → Insn → ℕ → AbsState → State → Succ → AbsState → State → Type 0
 GoesOn cfg key at insn len s S Falls out T = DescribesAt cfg key (word (at + len)) out T
 GoesOn cfg key at insn len s S (Jumps target) out T = DescribesAt cfg key target out T
