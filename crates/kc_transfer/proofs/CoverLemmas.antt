@@ -1,6 +1,6 @@
 -- A step is covered by the law of steps, since the answer is the abstract step's; and the end of a handler by the law of
 -- ends: the state that the law has after it is the one that is answered.
-use Rattle.std.proofs.Common.{◌≡◌, ℕ, ◌+◌, Bool, true, Option, Some, sym, ap, ◌∙◌, subst}
+use Rattle.std.proofs.Common.{◌≡◌, ℕ, ◌+◌, Bool, sym, ap, ◌∙◌, subst}
 use Rattle.std.specs.Prelude.{is_some, IfSome, IfOk, Result, Ok, Err}
 use Rattle.kc_bits.specs.Bits.{word}
 use Rattle.kc_insn.specs.declared.insn.Insn.{Insn}
@@ -34,16 +34,17 @@ ends_covered cfg key s insn answer out valid state is value image at len S l her
           subst (λ o. Describes cfg key (code_at (word (at + len))) found o T) (sym same) (c.goes found T steps);
     }
 
-pub steps_covered : (cfg : Description) (key : Key) (s : AbsState) (insn : Insn) (len at : ℕ)
-    (result : Result Succ Condition) (old new : Scratch) → IsValid cfg → IsState s
-    → Steps result old new (abs_step cfg key s insn (word (at + len)))
+-- `size` is the length as the code widens it
+pub steps_covered : (cfg : Description) (key : Key) (s : AbsState) (insn : Insn) (len at size : ℕ) → size ≡ len
+    → (result : Result Succ Condition) (old new : Scratch) → IsValid cfg → IsState s
+    → Steps result old new (abs_step cfg key s insn (word (at + size)))
     → IfOk result (λ succ. CoversSteps cfg key s insn len at succ new.out)
-steps_covered cfg key s insn len at (Ok succ) old new valid state steps = λ image S spelled text D.
+steps_covered cfg key s insn len at size e (Ok succ) old new valid state steps = λ image S spelled text D.
     step_covered cfg image key at insn len s S succ new.out (record {
       valid = valid;
       state = state;
       spelled = spelled;
       text = text;
       described = D;
-    }) steps.0
-steps_covered cfg key s insn len at (Err e) old new valid state steps = tt
+    }) (subst (λ n. abs_step cfg key s insn (word (at + n)) ≡ Ok (succ, new.out)) e steps.0)
+steps_covered cfg key s insn len at size e (Err c) old new valid state steps = tt

@@ -16,5 +16,5 @@ returns-clause-well_formed c = λ h.
 
 pub returns-clause-covers : goal.returns-clause-covers
 returns-clause-covers c =
-    steps_covered c.args.cfg.now c.args.key.now c.args.state.now c.args.insn.now c.args.len c.args.at c.step.result
-    c.args.out.now c.step.new.out c.tell.ensures.valid c.tell-2.ensures.valid c.step.ensures
+    steps_covered c.args.cfg.now c.args.key.now c.args.state.now c.args.insn.now c.args.len c.args.at c.from.result
+    c.from.ensures c.step.result c.args.out.now c.step.new.out c.tell.ensures.valid c.tell-2.ensures.valid c.step.ensures
