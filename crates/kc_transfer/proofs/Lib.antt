@@ -1,3 +1,4 @@
+pub mod CoverLemmas
 pub mod MaskLemmas
 pub mod StepForms
 pub mod EditForms

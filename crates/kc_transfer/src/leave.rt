@@ -4,6 +4,7 @@ ghost use Rattle.std.specs.Prelude.{◌≡◌, true, IsTrue, ◌↔◌, IfSome, 
 ghost use Rattle.kc_insn.specs.Encodable.{is_encodable};
 ghost use Rattle.kc_state.specs.WellFormed.{IsStateWellFormed};
 ghost use Rattle.kc_state.specs.Calls.{left_if, left_flags, left_registers, left, left_of, after_handler};
+ghost use Rattle.kc_transfer.specs.Covers.{CoversEnds};
 
 use crate::handler_call::called_handler;
 use crate::moment::bits_value;
@@ -100,6 +101,18 @@ fn leave_of(
     }
 }
 
+// The state after the end of the handler that the instruction calls, if it calls one that returns.
+fn leave_called(cfg: &Config, key: &Key, state: &AbsState, insn: &Insn, out: &mut AbsState) -> bool
+    requires encodable { is_encodable insn.now ≡ true }
+    ensures is { result ≡ is_some (after_handler cfg.now key.now state.now insn.now) }
+    ensures value { IfSome (after_handler cfg.now key.now state.now insn.now) (λ s. out.new ≡ s) }
+{
+    match *insn {
+        Insn::Call(target) => leave_of(cfg, key, state, called_handler(cfg, target), out),
+        _ => false,
+    }
+}
+
 /// Whether `insn` calls a handler that returns; then `out.out` is the state after the handler's end,
 /// where `state` is that at its body, and well-formed where that is. It takes no memory.
 pub fn leave_abs(cfg: &Config, key: &Key, state: &AbsState, insn: &Insn, out: &mut Scratch) -> bool
@@ -109,9 +122,10 @@ pub fn leave_abs(cfg: &Config, key: &Key, state: &AbsState, insn: &Insn, out: &m
     ensures back { out.new.back ≡ out.old.back }
     ensures well_formed { IsStateWellFormed cfg.now key.now state.now
         → IfSome (after_handler cfg.now key.now state.now insn.now) (IsStateWellFormed cfg.now key.now) }
+    // Where the state describes the machine while the handler runs, its end is covered.
+    ensures covers { CoversEnds cfg.now key.now state.now insn.now result out.new.out }
 {
-    match *insn {
-        Insn::Call(target) => leave_of(cfg, key, state, called_handler(cfg, target), &mut out.out),
-        _ => false,
-    }
+    cfg.tell();
+    state.tell();
+    leave_called(cfg, key, state, insn, &mut out.out)
 }

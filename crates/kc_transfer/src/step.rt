@@ -10,6 +10,7 @@ ghost use Rattle.kc_state.specs.AbsStep.{abs_step, conditions, with_call};
 ghost use Rattle.kc_state.specs.WellFormed.{IsStateWellFormed};
 ghost use Rattle.kc_state.specs.AbsEvents.{HasStack};
 ghost use Rattle.kc_transfer.specs.Step.{Steps};
+ghost use Rattle.kc_transfer.specs.Covers.{CoversSteps};
 
 use crate::calls::enter_called;
 use crate::changed::{Changed, Store};
@@ -17,6 +18,7 @@ use crate::conditions::check_conditions;
 use crate::table::abs_row;
 use kc_frames::Slots;
 use kc_insn::Insn;
+use kc_lattice::Domain;
 use kc_regions::Config;
 use kc_state::{AbsState, Condition, Key, Moment, Scratch, Succ, cpu_of, store};
 use kc_value::Value;
@@ -125,7 +127,11 @@ pub fn transfer(
     ensures value { Steps result out.old out.new (abs_step cfg.now key.now state.now insn.now (word (at + len))) }
     ensures well_formed { IsStateWellFormed cfg.now key.now state.now
         → IfOk result (λ _. IsStateWellFormed cfg.now key.now out.new.out) }
+    // Where the image spells the instruction in executable text (C5) and the state describes the machine, the
+    // machine's step breaks nothing, and leads where the answer says.
+    ensures covers { IfOk result (λ succ. CoversSteps cfg.now key.now state.now insn.now len at succ out.new.out) }
 {
     cfg.tell();
+    state.tell();
     step(cfg, key, state, insn, at.wrapping_add(u64::from(len)), out)
 }
