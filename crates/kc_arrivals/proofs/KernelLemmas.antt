@@ -9,7 +9,6 @@ use Rattle.std.proofs.lemmas.List.Elements.{All-head, All-tail}
 use Rattle.kc_bits.specs.Bits.{StandsFor, word}
 use Rattle.kc_bits.specs.KnownBits.{KnownBits}
 use Rattle.kc_image.specs.Image.{Contents}
-use Rattle.kc_insn.proofs.Encoded.{spelled-encodable}
 use Rattle.kc_insn.specs.declared.insn.Insn.{Insn}
 use Rattle.kc_insn.specs.declared.insn.Insn.TheVariants.{Call as CallInsn, Iretq}
 use Rattle.kc_regions.specs.Description.{Description}
@@ -55,6 +54,8 @@ use Rattle.kc_describes.proofs.FrameLemmas.{code, code_file, seen_of}
 use Rattle.kc_describes.proofs.InsnLemmas.{has_operands}
 use Rattle.kc_describes.proofs.SlotLemmas.{region_fits}
 use Rattle.kc_returns.proofs.FetchLemmas.{one_found}
+use Rattle.kc_effects.proofs.DispLemmas.{disps_of}
+use Rattle.kc_effects.proofs.SpelledLemmas.{found_is_spelled}
 use Rattle.kc_arrivals.specs.Arrivals.{vector_of, IsAtSite, EventIsAmong}
 use Rattle.kc_arrivals.proofs.FaultLemmas.{some_fault}
 use Rattle.kc_arrivals.proofs.GateLemmas.{clear_latch, found_gate, by_gate, has_debug, has_nmi, has_page_fault, has_check}
@@ -191,7 +192,8 @@ module _ (cfg : Description) (image : Contents) (key : Key) (site : Site) (insn 
       let touching = any_access insn a own in
       let seen = seen_of cfg key site.at there.next (Some (insn, len)) s S H.state (omega arith) (at_code outside D) in
       let other : insn ≡ Iretq → ⊥ = λ e. false≢true (sym touching.0 ∙ ap is_iretq e) in
-      let operands = has_operands insn (spelled-encodable H.spelled.0 site.at insn H.spelled.3) H.fields in
+      let form = found_is_spelled image site.at insn len H.spelled in
+      let operands = has_operands insn form.encodable (disps_of insn form.fits) in
       let agree = accesses_agree cfg H.valid key S.chain D.chain D.typed.chain (cpu_of s) s.slots S.cpu S.latch
       S.mem.bytes there.next seen insn operands other in
       let permitted = subst (λ z. list_all (λ q. may_at (before (word (z + len))) q.at q.size q.touch)

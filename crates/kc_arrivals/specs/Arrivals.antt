@@ -21,7 +21,6 @@ use Rattle.kc_state.specs.declared.state.AbsState.{AbsState}
 use Rattle.kc_state.specs.declared.user.UserState.{UserState}
 use Rattle.kc_describes.specs.Describes.{Describes}
 use Rattle.kc_describes.specs.User.{UserDescribes}
-use Rattle.kc_describes.proofs.InsnLemmas.{HasDisps}
 
 -- the vector of a turn, where it is an event that goes through a gate: SDM vol. 3A, "Exception and Interrupt Vectors"
 abbrev pub vector_of : Turn → Option ℕ
@@ -50,7 +49,6 @@ pub record IsAtSite (cfg : Description) (image : Contents) (key : Key) (site : S
   where
     pub valid : IsValid cfg
     pub state : IsState s
-    pub fields : HasDisps insn
     pub spelled : IsAt image site.at (Some (insn, len))
     pub permitted : site.inside ≡ false → PermitsAccesses (moment_of cfg key s (word (site.at + len))) insn
     pub described : Describes cfg key site (Some (insn, len)) s S

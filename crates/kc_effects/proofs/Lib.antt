@@ -3,6 +3,7 @@ pub mod ArithLemmas
 pub mod FlagRowLemmas
 pub mod FormLemmas
 pub mod SpelledLemmas
+pub mod DispLemmas
 pub mod MoveRowLemmas
 pub mod SystemRowLemmas
 pub mod RowLemmas

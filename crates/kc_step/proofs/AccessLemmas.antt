@@ -5,10 +5,7 @@ use Rattle.std.specs.List.{list_all, list_any}
 use Rattle.std.proofs.lemmas.Bool.{cases_eq, and_parts, or_parts, or_cases, not-true, false≢true}
 use Rattle.std.proofs.lemmas.List.Elements.{All-nil, All-cons, All-head, All-tail}
 use Rattle.kc_insn.specs.declared.insn.Insn.{Insn}
-use Rattle.kc_insn.specs.declared.insn.Insn.TheVariants.{Mov, Lea, Xchg, Push, Pop, Alu, Test, Bit, Iretq}
-use Rattle.kc_insn.specs.declared.insn.Source.{Source}
-use Rattle.kc_insn.specs.declared.insn.Source.TheVariants as source
-use Rattle.kc_insn.specs.Fields.{source_of}
+use Rattle.kc_insn.specs.declared.insn.Insn.TheVariants.{Iretq}
 use Rattle.kc_image.specs.Image.{Contents}
 use Rattle.kc_regions.specs.Description.{Description}
 use Rattle.kc_regions.specs.Layout.{InBytes}
@@ -40,7 +37,6 @@ use Rattle.kc_describes.specs.Spaces.{gs_env}
 use Rattle.kc_describes.specs.Widths.{IsWord}
 use Rattle.kc_describes.proofs.AccessLemmas.{Agree, HasOperands, accesses_agree}
 use Rattle.kc_describes.proofs.FrameLemmas.{code_file, seen_of}
-use Rattle.kc_describes.proofs.InsnLemmas as spelled
 use Rattle.kc_describes.proofs.InsnLemmas.{has_operands}
 use Rattle.kc_describes.proofs.OperandLemmas.{IsSeen}
 use Rattle.kc_describes.proofs.PermissionLemmas.{IsKnownCr3, known_cr3}
@@ -48,28 +44,11 @@ use Rattle.kc_describes.proofs.QuietLemmas.{IsQuiet, quiet_all}
 use Rattle.kc_returns.proofs.FetchLemmas.{fetch_quiet}
 use Rattle.kc_system.specs.Forbidden.{AreUnguarded, PassesConditions}
 use Rattle.kc_system.specs.System.{known_moment, IsKernelMoment}
-use Rattle.kc_stack.specs.Rows.{FitsSource, FitsTypes, IsSpelled}
+use Rattle.kc_stack.specs.Rows.{IsSpelled}
+use Rattle.kc_effects.proofs.DispLemmas.{disps_of}
 use Rattle.kc_effects.proofs.SpelledLemmas.{found_is_spelled}
 use Rattle.kc_step.specs.Step.{IsAtInsn}
 use Rattle.kc_step.proofs.PassLemmas.{PassesAll}
-
--- ---- operands
-
-disp_of : (x : Source) → FitsSource x → spelled.HasDisp x
-disp_of (source.Reg r) h = tt
-disp_of (source.Mem a) h = h
-disp_of (source.Imm z) h = tt
-
-disps_of : (insn : Insn) → FitsTypes insn → spelled.HasDisps insn
-disps_of (Mov w dest src) h = (disp_of (source_of dest) h.0, disp_of src h.1)
-disps_of (Lea w dest src) h = h
-disps_of (Xchg w dest src) h = disp_of (source_of dest) h
-disps_of (Push src) h = disp_of src h
-disps_of (Pop dest) h = disp_of (source_of dest) h
-disps_of (Alu op w dest src) h = (disp_of (source_of dest) h.0, disp_of src h.1)
-disps_of (Test w dest src) h = (disp_of (source_of dest) h.0, disp_of src h.1)
-disps_of (Bit op w dest number) h = disp_of (source_of dest) h.0
-disps_of insn h = tt
 
 -- ---- guards
 
