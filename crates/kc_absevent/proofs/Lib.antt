@@ -2,6 +2,7 @@ pub mod SetLemmas
 pub mod GateLemmas
 pub mod RegionLemmas
 pub mod ByteLemmas
+pub mod CoverLemmas
 pub mod WordLemmas
 pub mod RowLemmas
 pub mod FaultLemmas

@@ -11,6 +11,7 @@ ghost use Rattle.kc_state.specs.Memory.{is_same_stack};
 ghost use Rattle.kc_state.specs.State.{state_below};
 ghost use Rattle.kc_state.specs.WellFormed.{IsStateWellFormed};
 ghost use Rattle.kc_state.specs.AbsReturn.{is_clobbered, is_protected, is_offset_protected, loses_bytes, loses_word, loses, kept, returned};
+ghost use Rattle.kc_absevent.specs.Covers.{CoversReturn};
 
 use crate::covered::{Becomes, are_slots_covered};
 use kc_frames::{Change, Clobber};
@@ -221,7 +222,7 @@ fn put_back(cfg: &Config, key: &Key, state: &AbsState, summary: &Summary, back: 
 pub fn after_return(
     cfg: &Config,
     key: &Key,
-    _site: &Site,
+    site: &Site,
     state: &AbsState,
     summary: &Summary,
     out: &mut Scratch,
@@ -231,7 +232,12 @@ pub fn after_return(
     ensures out { out.new.out ≡ out.old.out }
     ensures well_formed { IsStateWellFormed cfg.now key.now state.now
         → IsStateWellFormed cfg.now key.now out.new.back }
+    // Where the state describes the machine before the event, and is exact (C4), it describes it after the return.
+    ensures covers { CoversReturn cfg.now key.now site.now state.now summary.now out.new.back }
 {
+    cfg.tell();
+    state.tell();
+    let _at = site;
     put_back(cfg, key, state, summary, &mut out.back);
 }
 

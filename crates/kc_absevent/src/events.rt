@@ -4,6 +4,7 @@ ghost use Rattle.std.specs.Prelude.{◌≡◌, ◌≤◌, true, Option};
 ghost use Rattle.kc_insn.specs.Encodable.{is_encodable};
 ghost use Rattle.kc_regions.specs.Lookup.{gate_of};
 ghost use Rattle.kc_state.specs.AbsEvents.{HasStack, handler_called_by, may_be_open, takes_irq, takes_debug, takes_fault, arrives, is_gate, comes};
+ghost use Rattle.kc_absevent.specs.Covers.{CoversEvents};
 ghost use Rattle.kc_absevent.specs.Sets.{has_vector, IsSetOf};
 
 use crate::event_set::EventSet;
@@ -11,6 +12,7 @@ use crate::faults::may_fault;
 use crate::user::{MACHINE_CHECK, NMI, may_be_clear};
 use kc_bits::Bits;
 use kc_insn::Insn;
+use kc_lattice::Domain;
 use kc_regions::{Config, Gate, Handler};
 use kc_state::{AbsState, Key, Moment, Site, cpu_of};
 
@@ -170,7 +172,11 @@ pub fn events_at(
     requires length { (1 ≤ len) × (len ≤ 15) }
     requires stack { HasStack cfg.now key.now }
     ensures value { IsSetOf result.vectors (comes cfg.now key.now site.now state.now insn.now len) }
+    // Each event that the machine allows there, where the state describes it, is in the set.
+    ensures covers { CoversEvents cfg.now key.now site.now state.now insn.now len result.vectors }
 {
+    cfg.tell();
+    state.tell();
     let all = Arrivals {
         irq: takes_irq(cfg, site, state, insn),
         nmi: may_be_clear(state.latches.nmi_blocked),

@@ -2,6 +2,7 @@
 
 ghost use Rattle.std.specs.Prelude.{◌≡◌};
 ghost use Rattle.kc_state.specs.AbsEvents.{may_be_clear, comes_from_user, user_comes};
+ghost use Rattle.kc_absevent.specs.Covers.{CoversUserEvents};
 ghost use Rattle.kc_absevent.specs.Sets.{has_vector, IsSetOf};
 
 use crate::event_set::EventSet;
@@ -38,6 +39,8 @@ fn comes_from_user(user: &UserState, gate: &Gate) -> bool
 #[tactic(auto, using(crate::proofs::GateLemmas::walked_none, crate::proofs::GateLemmas::walked_added, crate::proofs::GateLemmas::walked_kept, crate::proofs::GateLemmas::walked_all))]
 pub fn user_events(cfg: &Config, user: &UserState) -> EventSet
     ensures value { IsSetOf result.vectors (user_comes cfg.now user.now) }
+    // Each event that the machine allows while the user runs, where the user state describes it, is in the set.
+    ensures covers { CoversUserEvents cfg.now user.now result.vectors }
 {
     cfg.tell();
     let mut events = EventSet::new();
