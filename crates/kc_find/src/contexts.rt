@@ -6,12 +6,12 @@ ghost use Rattle.kc_find.specs.Rounds.{IsSettled};
 ghost use Rattle.kc_frames.specs.Clobber.{clobber_rank};
 
 use crate::finder::FindEnd;
-use crate::numbers::Numbers;
 use crate::rows::Rows;
 use kc_cert::MAX_CONTEXTS;
 use kc_frames::Clobber;
 use kc_lattice::join_changed;
 use kc_plain::NoMemory;
+use kc_rising::Numbers;
 use kc_space::{Latches, Tri};
 use kc_state::{Key, Summary};
 use std::alloc::Global;

@@ -3,7 +3,6 @@
 ghost use Rattle.std.specs.Prelude.{◌≡◌, ◌≤◌, ◌<◌, IfOk, OnOk, Ok, true};
 ghost use Rattle.kc_find.specs.Rounds.{AreSettled, room};
 
-use crate::numbers::Numbers;
 use crate::ordered::certificate_of;
 use crate::rounds::{Listed, RoundEnd, next_round};
 use crate::table::Table;
@@ -13,6 +12,7 @@ use kc_image::Image;
 use kc_placed::{Vectors, put_start_user};
 use kc_plain::NoMemory;
 use kc_regions::Config;
+use kc_rising::Numbers;
 use kc_state::{AbsState, Scratch, UserState};
 use std::alloc::Global;
 

@@ -2,15 +2,10 @@
 //! nothing changes.
 #![tactic(auto)]
 
-mod cell;
 mod contexts;
 mod events;
 mod finder;
-mod kept;
-mod numbers;
 mod ordered;
-mod rising;
-mod rooms;
 mod rounds;
 mod rows;
 mod table;

@@ -5,7 +5,6 @@ ghost use Rattle.kc_find.specs.Rounds.{AreSettled, IsGrown, count, room, stood, 
 ghost use Rattle.kc_find.specs.declared.rounds.RoundEnd.TheVariants.{Grew, Rose};
 
 use crate::finder::FindEnd;
-use crate::numbers::Numbers;
 use crate::table::Table;
 use crate::users::want_entries;
 use crate::visit::{Desk, Inputs, visit};
@@ -13,6 +12,7 @@ use kc_image::Image;
 use kc_placed::{home_written, is_return, latches_after, place};
 use kc_plain::NoMemory;
 use kc_regions::Config;
+use kc_rising::Numbers;
 use kc_space::Latches;
 use kc_transfer::has_stack;
 

@@ -4,12 +4,10 @@ ghost use Rattle.std.specs.Prelude.{◌≡◌, ◌<◌, ◌≤◌, ◌+◌, ◌^
 ghost use Rattle.kc_find.specs.Rounds.{IsSettled};
 
 use crate::finder::FindEnd;
-use crate::kept::Kept;
-use crate::numbers::Numbers;
-use crate::rising::Rising;
 use indexmap::IndexSet;
 use kc_lattice::Domain;
 use kc_plain::NoMemory;
+use kc_rising::{Kept, Numbers, Rising};
 use std::alloc::Global;
 use std::hash::Hash;
 use std::marker::Model;
@@ -22,14 +20,14 @@ pub(crate) struct Rows<K: Eq + Hash, D: Domain> {
 }
 
 impl<K: Eq + Hash, D: Domain> Model for Rows<K, D> {
-    ghost use Rattle.std.specs.Prelude.{ℕ, List};
+    ghost use Rattle.std.specs.Prelude.{ℕ, List, length};
     ghost use Rattle.std.specs.Coded.{coded_list, coded_ℕ, coded×};
 
     ghost Value = { List D × ℕ };
 
     ghost coded = { coded× (coded_list D.code) coded_ℕ };
 
-    ghost view = { λ r. r.values };
+    ghost view = { λ r. (r.values.0, length r.values.1) };
 }
 
 impl<K: Eq + Hash + Drop, D: Kept + Drop> Rows<K, D> {

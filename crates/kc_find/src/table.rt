@@ -6,15 +6,14 @@ ghost use Rattle.kc_cert.specs.declared.certificate.TheConstants.{MAX_CONTEXTS, 
 ghost use Rattle.kc_find.specs.Rounds.{AreSettled, IsGrown, count, stood};
 ghost use Rattle.kc_state.specs.User.{user_rank};
 
-use crate::cell::Cell;
 use crate::contexts::Contexts;
 use crate::finder::FindEnd;
-use crate::rooms::Rooms;
 use crate::rows::Rows;
 use indexmap::IndexSet;
 use kc_cert::MAX_NODES;
 use kc_frames::Clobber;
 use kc_plain::NoMemory;
+use kc_rising::{Cell, Rooms};
 use kc_state::{AbsState, Key, Site, Summary, UserState};
 use std::alloc::Global;
 use std::marker::Model;
