@@ -1,0 +1,4 @@
+pub mod FlagLemmas
+pub mod ChainLemmas
+pub mod PushLemmas
+pub mod InterruptedLemmas

@@ -1,0 +1,2 @@
+//! Deliveries of events: laws on the definitions of the model and of the analysis. Nothing here runs.
+#![tactic(auto)]
