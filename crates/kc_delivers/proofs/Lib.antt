@@ -2,3 +2,5 @@ pub mod FlagLemmas
 pub mod ChainLemmas
 pub mod PushLemmas
 pub mod InterruptedLemmas
+pub mod BytesLemmas
+pub mod EntryLemmas
