@@ -4,3 +4,5 @@ pub mod PushLemmas
 pub mod InterruptedLemmas
 pub mod BytesLemmas
 pub mod EntryLemmas
+pub mod TurnLemmas
+pub mod ReadLemmas
