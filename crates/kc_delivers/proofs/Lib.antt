@@ -6,3 +6,4 @@ pub mod BytesLemmas
 pub mod EntryLemmas
 pub mod TurnLemmas
 pub mod ReadLemmas
+pub mod UserLemmas
