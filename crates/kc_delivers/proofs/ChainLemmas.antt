@@ -4,7 +4,6 @@ use Rattle.std.proofs.Common.{◌≡◌, ◌≢◌, ℕ, ◌⊎◌, inl, inr, Li
 use Rattle.std.specs.Option.{unwrap_or}
 use Rattle.std.proofs.lemmas.List.Elements.{All-nil, All-cons, All-append, Contains-push_cases}
 use Rattle.kc_regions.specs.Description.{Description}
-use Rattle.kc_cpu.specs.declared.cpu.Cpu.{Cpu}
 use Rattle.kc_cpu.specs.declared.cpu.Mode.TheVariants.{User}
 use Rattle.kc_exec.specs.Live.{IsLive, IsLiveFor}
 use Rattle.kc_exec.specs.declared.state.Activation.{Activation}

@@ -1,13 +1,11 @@
 -- The machine at the entry that a delivery leads to. Registers and flags by their symbols and bits; of the slots, the
 -- words of the TSS and of the configuration lie in areas, which the frame doesn't meet, and those of the frame are what
 -- was pushed. Floors, the base and the new RSP are premises, which the two kinds of frames meet each in its way.
-use Rattle.std.proofs.Common.{◌≡◌, ◌≢◌, ℕ, zero, suc, ◌+◌, ◌-◌, ◌*◌, ◌^◌, ◌<◌, ◌≤◌, ◌⊎◌, ◌==◌, ◌||◌, not, nat_le, cond, if◌then◌else◌, inl, inr, Bool, true, false, List, [], ◌∷◌, ◌++◌, length, get_or, set, slice_index, All, Option, Some, None, get_or-set_same, get_or-set_other, refl, sym, ap, ◌∙◌, subst, arith}
-use Rattle.std.specs.Int.{w64, bit_not}
+use Rattle.std.proofs.Common.{◌≡◌, ℕ, zero, suc, ◌+◌, ◌-◌, ◌*◌, ◌^◌, ◌<◌, ◌≤◌, ◌⊎◌, ◌==◌, ◌||◌, not, nat_le, cond, if◌then◌else◌, inl, inr, Bool, true, false, List, [], ◌∷◌, ◌++◌, length, get_or, set, slice_index, Option, Some, get_or-set_same, get_or-set_other, refl, sym, ap, ◌∙◌, subst, arith}
 use Rattle.std.proofs.lemmas.Bool.{cases_eq, cases_lt, le-leb, lt-leb, false≢true}
 use Rattle.std.proofs.lemmas.List.{length-set, get_or_past}
 use Rattle.std.proofs.lemmas.List.Elements.{All-set}
 use Rattle.kc_regions.specs.Description.{Description}
-use Rattle.kc_regions.specs.Layout.{InBytes}
 use Rattle.kc_regions.specs.Region.{region_of}
 use Rattle.kc_regions.specs.Valid.{IsValid}
 use Rattle.kc_regions.specs.declared.entry.Gate.{Gate}
@@ -18,7 +16,7 @@ use Rattle.kc_cpu.specs.declared.cpu.Latch.{Latch}
 use Rattle.kc_cpu.specs.declared.cpu.Mode.{Mode}
 use Rattle.kc_cpu.specs.declared.cpu.Mode.TheVariants.{User, Code, Inside}
 use Rattle.kc_insn.specs.declared.insn.Insn.{Insn}
-use Rattle.kc_mem.specs.Memory.{Bytes, AreBytes, read}
+use Rattle.kc_mem.specs.Memory.{Bytes, read}
 use Rattle.kc_exec.specs.Operand.{plus}
 use Rattle.kc_exec.specs.Register.{register, rsp}
 use Rattle.kc_exec.specs.declared.state.Activation.{Activation}
@@ -34,7 +32,7 @@ use Rattle.kc_space.specs.declared.latches.Latches.{Latches}
 use Rattle.kc_space.specs.declared.tri.Tri.{Tri}
 use Rattle.kc_space.specs.declared.tri.Tri.TheVariants as tri
 use Rattle.kc_value.specs.AbsValue.{AbsValue}
-use Rattle.kc_value.specs.Made.{plain, of_bits}
+use Rattle.kc_value.specs.Made.{plain}
 use Rattle.kc_value.specs.Value.{Represents, value_top}
 use Rattle.kc_value.specs.declared.env.ValueEnv.{ValueEnv}
 use Rattle.kc_state.specs.AbsDelivery as known
@@ -42,13 +40,12 @@ use Rattle.kc_state.specs.Places.{below_address, word_of}
 use Rattle.kc_state.specs.declared.interrupted.Interrupted.{Interrupted}
 use Rattle.kc_state.specs.declared.key.Key.{Key}
 use Rattle.kc_state.specs.declared.location.Location.{Location}
-use Rattle.kc_state.specs.declared.location.Location.TheVariants.{Number}
 use Rattle.kc_state.specs.declared.state.AbsState.{AbsState}
-use Rattle.kc_describes.specs.Chain.{newest_of, env_of}
+use Rattle.kc_describes.specs.Chain.{env_of}
 use Rattle.kc_describes.specs.Describes.{Describes}
 use Rattle.kc_describes.specs.Fits.{is_user_mode, IsKernelCpu, IsBaseOf, IsFrameBase}
 use Rattle.kc_describes.specs.Places.{address_of, FloorsStand, SlotsStand, WordStands}
-use Rattle.kc_describes.specs.Row.{value_at, RegistersStand, FileStands, SpacesStand}
+use Rattle.kc_describes.specs.Row.{value_at, FileStands, SpacesStand}
 use Rattle.kc_describes.specs.Spaces.{LatchesStand}
 use Rattle.kc_describes.specs.Widths.{IsWord, IsMachine, IsActivation}
 use Rattle.kc_describes.proofs.MemoryLemmas.{read_agree}
@@ -184,11 +181,11 @@ module _ (cfg : Description) (valid : IsValid cfg) (i : Interrupted) (slots : Li
       let whole = w.whole in
       let fits : w.at < 2 ^ 64 = omega (arith, whole) in
       read_agree mem S.mem.bytes w.at 8 fits (λ x low inside.
-          let between = rising_byte x w.at 8 low fits (omega (arith, whole)) inside in
-          let r = w.bytes (x - w.at) (omega (arith, between.0, between.1)) in
-          let same : w.at + (x - w.at) ≡ x = omega (arith, between.0) in
-          frame_elsewhere S.mem.bytes base words x F.fits F.room low
-          (λ of. F.apart x r.0 of (ap (region_of cfg.regions) (sym same) ∙ r.1) r.2))
+      let between = rising_byte x w.at 8 low fits (omega (arith, whole)) inside in
+      let r = w.bytes (x - w.at) (omega (arith, between.0, between.1)) in
+      let same : w.at + (x - w.at) ≡ x = omega (arith, between.0) in
+      frame_elsewhere S.mem.bytes base words x F.fits F.room low
+      (λ of. F.apart x r.0 of (ap (region_of cfg.regions) (sym same) ∙ r.1) r.2))
 
   below_slot : (j : ℕ) (l : Location) → j < 40 → word_of cfg key j ≡ Some l
       → WordStands env mem (plain (value_at slots j)) l

@@ -1,9 +1,9 @@
 -- RFLAGS at the entry of kernel code. Flags of the model stay such under a mask that leaves bit 1, and a mask counts
 -- for its flags of the model alone; so what the analysis clears is what the processor clears. By places of bits.
-use Rattle.std.proofs.Common.{◌≡◌, ℕ, ◌-◌, ◌^◌, ◌<◌, ◌≤◌, min, Bool, true, false, bit_and, refl, sym, ap, ◌∙◌, subst, inl, inr, arith}
+use Rattle.std.proofs.Common.{◌≡◌, ℕ, ◌^◌, ◌<◌, ◌≤◌, min, Bool, true, false, bit_and, refl, sym, ap, ◌∙◌, subst, inl, inr, arith}
 use Rattle.std.proofs.lemmas.Bool.{cases_lt, cases_eq}
 use Rattle.std.proofs.lemmas.Nat.{and_le_r}
-use Rattle.std.proofs.lemmas.Nat.Bits.{same_from_bits, bit_at_and, bit_at_or, bit_at-lt, bit_at-zero, bit_at_above, bit_at-pow_other, bit_at_mask_below}
+use Rattle.std.proofs.lemmas.Nat.Bits.{same_from_bits, bit_at_and, bit_at_or, bit_at-zero, bit_at_above, bit_at-pow_other, bit_at_mask_below}
 use Rattle.std.specs.Int.{w64, bit_at, bit_not}
 use Rattle.kc_bits.specs.KnownBits.{KnownBits}
 use Rattle.kc_bits.specs.Bits.{StandsFor, flipped, all_of, bits_and}
@@ -29,12 +29,12 @@ pub same_masked : (f m k : ℕ) → bit_and f model_flags ≡ f → bit_and mode
     → bit_and f m ≡ bit_and f k
 same_masked f m k h same =
     same_from_bits (bit_and f m) (bit_and f k) (λ i.
-        let low = within f i h in
-        let one = bit_at_and model_flags m i in
-        let other = bit_at_and model_flags k i in
-        let both : bit_at (bit_and model_flags m) i ≡ bit_at (bit_and model_flags k) i = ap (λ (v : ℕ). bit_at v i) same
-        in
-        bit_at_and f m i ∙ omega (arith, low, one, other, both) ∙ sym (bit_at_and f k i))
+    let low = within f i h in
+    let one = bit_at_and model_flags m i in
+    let other = bit_at_and model_flags k i in
+    let both : bit_at (bit_and model_flags m) i ≡ bit_at (bit_and model_flags k) i = ap (λ (v : ℕ). bit_at v i) same
+    in
+    bit_at_and f m i ∙ omega (arith, low, one, other, both) ∙ sym (bit_at_and f k i))
 
 -- flags of the model under a mask that leaves bit 1
 pub masked_flags : (f m : ℕ) → AreModelFlags f → bit_at m 1 ≡ 1 → AreModelFlags (bit_and f m)
@@ -42,8 +42,8 @@ masked_flags f m model fixed = record {
   fixed = bit_at_and f m 1 ∙ omega (arith, model.fixed, fixed);
   modelled =
       same_from_bits (bit_and (bit_and f m) model_flags) (bit_and f m) (λ i.
-          bit_at_and (bit_and f m) model_flags i
-          ∙ omega (arith, bit_at_and f m i, within f i model.modelled));
+      bit_at_and (bit_and f m) model_flags i
+      ∙ omega (arith, bit_at_and f m i, within f i model.modelled));
 }
 
 pub masked_fits : (f m : ℕ) → m < 2 ^ 64 → bit_and f m < 2 ^ 64

@@ -1,6 +1,6 @@
 -- What is known of an interrupted context, user or kernel, as a fact: each value stands for its word whatever the base
 -- of the activation that an entry makes. From it the chain with that activation fits the key that is entered.
-use Rattle.std.proofs.Common.{◌≡◌, ◌≢◌, ℕ, ◌+◌, ◌^◌, ◌<◌, not, Bool, true, false, List, [], ◌∷◌, ◌++◌, length, get_or, slice_index, All, Option, Some, None, IfSome, refl, sym, ap, ◌∙◌, subst, arith}
+use Rattle.std.proofs.Common.{◌≡◌, ℕ, ◌<◌, not, Bool, true, false, List, [], ◌∷◌, ◌++◌, length, get_or, slice_index, All, Option, Some, None, IfSome, refl, sym, ap, ◌∙◌, subst}
 use Rattle.std.proofs.lemmas.Bool.{true≢false}
 use Rattle.std.proofs.lemmas.List.{set-get_or}
 use Rattle.std.proofs.lemmas.Option.{slice_get_within}
@@ -100,7 +100,7 @@ own_due cfg cpu syscall v base ok = record {
   user = λ is. (
     ok is,
     let same : cpu.regs ≡ _ = sym (set-get_or cpu.regs 4 0) in
-    λ k. record cpu { regs = same k },
+        λ k. record cpu { regs = same k },
   );
 }
 

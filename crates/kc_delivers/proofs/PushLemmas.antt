@@ -1,13 +1,10 @@
 -- The words of a frame in memory. They are pushed one below the other, so each is read back, and no byte outside the
 -- frame changes; by induction on the words, with the frame's addresses as whole numbers.
-use Rattle.std.proofs.Common.{◌≡◌, ℕ, zero, suc, ◌+◌, ◌-◌, ◌*◌, ◌%◌, ◌^◌, ◌<◌, ◌≤◌, ◌⊎◌, inl, inr, List, [], ◌∷◌, length, get_or, All, refl, sym, ap, ◌∙◌, subst, arith}
-use Rattle.std.proofs.lemmas.List.Elements.{All-head, All-tail}
+use Rattle.std.proofs.Common.{◌≡◌, ℕ, zero, suc, ◌+◌, ◌-◌, ◌*◌, ◌%◌, ◌^◌, ◌<◌, ◌≤◌, List, [], ◌∷◌, length, get_or, refl, ap, ◌∙◌, arith}
 use Rattle.kc_regions.specs.Layout.{InBytes}
-use Rattle.kc_mem.specs.Memory.{Bytes, AreBytes, byte, read, write}
+use Rattle.kc_mem.specs.Memory.{Bytes, byte, read, write}
 use Rattle.kc_exec.specs.Operand.{plus}
 use Rattle.kc_events.specs.Delivery.{pushed, with_pushed}
-use Rattle.kc_state.specs.Places.{below_address}
-use Rattle.kc_describes.specs.Widths.{IsWord}
 use Rattle.kc_describes.proofs.MemoryLemmas.{read_agree, write_elsewhere, read-write}
 use Rattle.kc_describes.proofs.OffsetLemmas.{rising_byte}
 
@@ -51,9 +48,9 @@ frame_word_at mem top (v ∷ ws) zero w fits room inside is small =
     let first = write mem (under top) 8 v in
     let stays : read (with_pushed first (pushed (under top) ws)) (under top) 8 ≡ read first (under top) 8 =
     read_agree (with_pushed first (pushed (under top) ws)) first (under top) 8 (under_fits top) (λ x low h.
-        let between = rising_byte x (under top) 8 low (under_fits top) (omega (arith, at, fits, room)) h in
-        frame_elsewhere first (under top) ws x (under_fits top) (omega (arith, at, room)) low
-        (λ o. absurd (omega (arith, o.1, between.0)))) in
+    let between = rising_byte x (under top) 8 low (under_fits top) (omega (arith, at, fits, room)) h in
+    frame_elsewhere first (under top) ws x (under_fits top) (omega (arith, at, room)) low
+    (λ o. absurd (omega (arith, o.1, between.0)))) in
     let cut : v % 256 ^ 8 ≡ v = omega (arith, is, small) in
     ap (λ a. read (with_pushed first (pushed (under top) ws)) a 8) start
     ∙ stays ∙ read-write mem (under top) 8 v (under_fits top) (omega arith) ∙ cut ∙ is

@@ -1,9 +1,7 @@
 -- The accesses of a delivery, one by one. A read that the analysis permits breaks nothing and has no byte in a guard;
 -- of the pushes each byte is one of the frame's, so what is true of these is true of each push.
-use Rattle.std.proofs.Common.{◌≡◌, ℕ, zero, suc, ◌+◌, ◌-◌, ◌*◌, ◌^◌, ◌<◌, ◌≤◌, ◌||◌, inl, inr, true, false, List, [], ◌∷◌, length, map, All, refl, sym, subst, arith}
-use Rattle.std.proofs.lemmas.Bool.{true≢false, false≢true}
+use Rattle.std.proofs.Common.{◌≡◌, ℕ, zero, suc, ◌-◌, ◌*◌, ◌^◌, ◌<◌, ◌≤◌, ◌||◌, false, List, [], ◌∷◌, length, map, All, refl, arith}
 use Rattle.std.proofs.lemmas.List.Elements.{All-nil, All-cons}
-use Rattle.kc_regions.specs.Description.{Description}
 use Rattle.kc_regions.specs.Layout.{InBytes}
 use Rattle.kc_regions.specs.Permission.{in_guard}
 use Rattle.kc_regions.specs.declared.region.Region.{Region}
@@ -38,7 +36,7 @@ pushes_all P Q (w ∷ ws) top fits room bytes one =
     let low : under < 2 ^ 64 = omega arith in
     All-cons P (push_access (under, w)) (map push_access (pushed under ws))
     (one (under, w) low (λ x small inside.
-        let between = rising_byte x under 8 small low (omega (arith, at, fits, room)) inside in
-        bytes x small (omega (arith, at, between.0), omega (arith, at, between.1, room))))
+    let between = rising_byte x under 8 small low (omega (arith, at, fits, room)) inside in
+    bytes x small (omega (arith, at, between.0), omega (arith, at, between.1, room))))
     (pushes_all P Q ws under low (omega (arith, at, room))
     (λ x small of. bytes x small (omega (arith, at, of.0, room), omega (arith, at, of.1, room))) one)

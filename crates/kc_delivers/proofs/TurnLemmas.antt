@@ -1,6 +1,6 @@
 -- A turn that executes no instruction, whose accesses are all quiet: it breaks nothing, and a step of it stops or leads
 -- to what the attempt leaves. One instruction is at RIP, so a turn that may come isn't refused.
-use Rattle.std.proofs.Common.{◌≡◌, ℕ, ◌⊎◌, inl, inr, true, false, List, [], All, Option, Some, None, refl, sym, ap, ◌∙◌, subst}
+use Rattle.std.proofs.Common.{◌≡◌, ℕ, ◌⊎◌, inl, inr, true, false, [], All, Option, Some, None, refl, sym, ap, ◌∙◌, subst}
 use Rattle.std.proofs.lemmas.Bool.{true≢false}
 use Rattle.kc_insn.specs.declared.insn.Insn.{Insn}
 use Rattle.kc_image.specs.Image.{Contents}

@@ -1,6 +1,6 @@
 -- What the interrupted user's words are known to be is true of an admitted processor: of its registers nothing is known
 -- but that RSP lies in no stack, of the frame what an edit may leave, and of the selectors the user's.
-use Rattle.std.proofs.Common.{◌≡◌, ℕ, zero, suc, ◌+◌, ◌^◌, ◌<◌, ◌||◌, nat_eq, inl, inr, true, false, List, [], ◌∷◌, length, get_or, slice_index, Option, Some, None, min, refl, sym, ap, ◌∙◌, subst, arith}
+use Rattle.std.proofs.Common.{◌≡◌, ℕ, ◌^◌, ◌<◌, ◌||◌, nat_eq, inl, inr, true, false, get_or, Option, Some, None, refl, sym, subst, arith}
 use Rattle.std.specs.Int.{bit_at}
 use Rattle.std.proofs.lemmas.Bool.{or_cases, eqb-true, false≢true}
 use Rattle.std.proofs.lemmas.Nat.Bits.{bit_at_and, bit_at-lt}
@@ -18,7 +18,6 @@ use Rattle.kc_value.specs.declared.env.ValueEnv.{ValueEnv}
 use Rattle.kc_state.specs.AbsDelivery.{entry_of, user_cs}
 use Rattle.kc_state.specs.Calls.{edited_rsp}
 use Rattle.kc_describes.specs.Chain.{words_of}
-use Rattle.kc_describes.specs.Places.{stack_spans}
 use Rattle.kc_describes.proofs.ValueLemmas.{anywhere, lies_at}
 use Rattle.kc_delivers.proofs.InterruptedLemmas.{entry_env}
 
