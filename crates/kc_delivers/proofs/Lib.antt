@@ -7,3 +7,4 @@ pub mod EntryLemmas
 pub mod TurnLemmas
 pub mod ReadLemmas
 pub mod UserLemmas
+pub mod AdmittedLemmas
