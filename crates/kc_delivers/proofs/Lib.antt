@@ -8,3 +8,4 @@ pub mod TurnLemmas
 pub mod ReadLemmas
 pub mod UserLemmas
 pub mod AdmittedLemmas
+pub mod SyscallLemmas
