@@ -9,3 +9,4 @@ pub mod ReadLemmas
 pub mod UserLemmas
 pub mod AdmittedLemmas
 pub mod SyscallLemmas
+pub mod PermittedLemmas
