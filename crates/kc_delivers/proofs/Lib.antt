@@ -10,3 +10,5 @@ pub mod UserLemmas
 pub mod AdmittedLemmas
 pub mod SyscallLemmas
 pub mod PermittedLemmas
+pub mod ConstantLemmas
+pub mod FromUserLemmas

@@ -1,7 +1,7 @@
 -- The accesses of a delivery from a constant base break nothing, and none has a byte in a guard: what it reads may be
 -- read, and the frame lies in one stack, may be written, and has no live byte.
-use Rattle.std.proofs.Common.{◌≡◌, ℕ, zero, suc, ◌+◌, ◌-◌, ◌*◌, ◌%◌, ◌^◌, ◌⊎◌, nat_le, ◌<◌, ◌≤◌, ◌||◌, ◌&&◌, nat_eq, inl, inr, Bool, true, false, cond, find, List, [], ◌∷◌, ◌++◌, length, map, All, Option, Some, None, IfSome, refl, sym, ap, ◌∙◌, subst, arith}
-use Rattle.std.proofs.lemmas.Bool.{and_parts, eqb-true, leb-true, false≢true}
+use Rattle.std.proofs.Common.{◌≡◌, ℕ, zero, suc, ◌+◌, ◌-◌, ◌*◌, ◌%◌, ◌^◌, ◌⊎◌, nat_le, ◌<◌, ◌≤◌, ◌||◌, ◌&&◌, nat_eq, inl, inr, Bool, true, false, List, [], ◌∷◌, ◌++◌, length, map, All, Option, Some, None, IfSome, refl, ap, ◌∙◌, subst, arith}
+use Rattle.std.proofs.lemmas.Bool.{and_parts, leb-true, false≢true}
 use Rattle.std.proofs.lemmas.List.Elements.{All-nil, All-cons, All-head, All-tail, All-append}
 use Rattle.kc_bits.specs.Bits.{word}
 use Rattle.kc_regions.specs.Description.{Description}
@@ -12,20 +12,18 @@ use Rattle.kc_regions.specs.Ranges.{IsGateInRange}
 use Rattle.kc_regions.specs.Region.{region_of, stack_of, stack_at}
 use Rattle.kc_regions.specs.Valid.{IsValid}
 use Rattle.kc_regions.specs.declared.entry.Gate.{Gate}
-use Rattle.kc_regions.specs.declared.region.Kind.TheVariants.{Area, Stack}
+use Rattle.kc_regions.specs.declared.region.Kind.TheVariants.{Area}
 use Rattle.kc_regions.specs.declared.region.Region.{Region}
-use Rattle.kc_regions.specs.declared.touch.Touch.TheVariants.{Fetch, Read, Write}
+use Rattle.kc_regions.specs.declared.touch.Touch.TheVariants.{Read, Write}
 use Rattle.kc_regions.proofs.LayoutLemmas.{laid}
 use Rattle.kc_rules.proofs.AnswerLemmas.{some_is}
 use Rattle.kc_rules.proofs.TestLemmas.{chosen}
-use Rattle.kc_cpu.specs.declared.cpu.Cpu.{Cpu}
 use Rattle.kc_space.specs.declared.map.MapState.{MapState}
 use Rattle.kc_exec.specs.Execution.{guarded, stops}
 use Rattle.kc_exec.specs.Live.{IsLive}
 use Rattle.kc_exec.specs.Operand.{plain_read}
 use Rattle.kc_exec.specs.declared.access.Access.{Access}
 use Rattle.kc_exec.specs.declared.state.Activation.{Activation}
-use Rattle.kc_events.specs.Breaks.{IsOf}
 use Rattle.kc_events.specs.Delivery.{pushed, push_access, stack_reads}
 use Rattle.kc_frames.specs.declared.floors.Floors.{Floors}
 use Rattle.kc_state.specs.AbsDelivery.{may_touch, may_read_word, may_push, holds_below, is_under_floor}
@@ -41,7 +39,6 @@ use Rattle.kc_describes.proofs.PermissionLemmas.{IsKnownCr3, passed, may_permits
 use Rattle.kc_describes.proofs.QuietLemmas.{IsQuiet}
 use Rattle.kc_describes.proofs.SlotLemmas.{region_fits}
 use Rattle.kc_delivers.proofs.EntryLemmas.{IsFrameAt}
-use Rattle.kc_delivers.proofs.PushLemmas.{OfFrame}
 use Rattle.kc_delivers.proofs.ReadLemmas.{unguarded, pushes_all}
 
 -- ---- gates
@@ -161,11 +158,12 @@ module _ (cfg : Description) (valid : IsValid cfg) (map_is : MapState) (cr3 gs :
       × (IsLive cfg chain x → ⊥))
       ws base fits (omega (arith, size, room))
       (λ x small of.
-      let inside = of_frame base n x fits room (omega (arith, of.0, size)) of.1 in
-      (may_permits cfg key 0 map_is cr3 (Number (below_address base n)) n x Write valid low (λ e. absurd cc) stands known
-      may small inside,
-      may_number cfg map_is (below_address base n) n x Write low small may inside,
-      unlive x (omega (arith, of.0, size)) of.1))
+      let inside = of_frame base n x fits room (omega (arith, of.0, size)) of.1 in (
+        may_permits cfg key 0 map_is cr3 (Number (below_address base n)) n x Write valid low (λ e. absurd cc) stands known
+            may small inside,
+        may_number cfg map_is (below_address base n) n x Write low small may inside,
+        unlive x (omega (arith, of.0, size)) of.1,
+      ))
       (λ w small bytes. (
         record {
           permitted = λ x of.

@@ -3,4 +3,4 @@
 
 mod laws;
 
-pub use laws::by_syscall;
+pub use laws::{by_syscall, from_user};
