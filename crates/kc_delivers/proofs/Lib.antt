@@ -12,3 +12,4 @@ pub mod SyscallLemmas
 pub mod PermittedLemmas
 pub mod ConstantLemmas
 pub mod FromUserLemmas
+pub mod KernelLemmas
