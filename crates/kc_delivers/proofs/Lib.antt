@@ -13,3 +13,4 @@ pub mod PermittedLemmas
 pub mod ConstantLemmas
 pub mod FromUserLemmas
 pub mod KernelLemmas
+pub mod RspLemmas
