@@ -54,7 +54,8 @@ module _ (cfg : Description) (valid : IsValid cfg) (u : UserState) (ok : IsUserS
     unknown_register : (w : ℕ) → w < 16 → Represents (entry_of w nothing_known) env (slice_index S.cpu.regs w)
     unknown_register w few =
         let n = slice_index S.cpu.regs w in
-        entry_stands cfg valid S.cpu S.cpu.gs base w n nothing_known (register_word S.cpu regs_count w few) (nothing_stands n)
+        entry_stands cfg valid S.cpu S.cpu.gs base w n nothing_known (register_word S.cpu regs_count w few)
+        (nothing_stands n)
 
     own_rsp : Represents edited_rsp env (register S.cpu rsp)
     own_rsp =

@@ -1,15 +1,15 @@
 -- What is known of interrupted kernel code at a code site is true of the machine that the state describes, from C4 and
 -- from two facts on RSP: that its stack is the one that is named, and that the saved RSP is stood for.
-use Rattle.std.proofs.Common.{◌≡◌, ◌≢◌, ℕ, zero, suc, ◌+◌, ◌^◌, ◌<◌, not, nat_lt, cond, Bool, true, false, List, [], ◌∷◌, ◌++◌, length, get_or, slice_index, Option, Some, None, refl, sym, ap, ◌∙◌, subst, arith}
+use Rattle.std.proofs.Common.{◌≡◌, ◌≢◌, ℕ, zero, suc, ◌+◌, ◌^◌, ◌<◌, not, nat_lt, cond, Bool, true, false, List, [], ◌∷◌, ◌++◌, length, get_or, slice_index, Option, Some, refl, sym, ap, ◌∙◌, subst, arith}
 use Rattle.std.proofs.lemmas.Bool.{true≢false, lt-ltb}
 use Rattle.kc_insn.specs.declared.insn.Insn.{Insn}
-use Rattle.kc_bits.specs.Bits.{StandsFor, all_of, nothing_known}
+use Rattle.kc_bits.specs.Bits.{all_of, nothing_known}
 use Rattle.kc_bits.proofs.Whole.{all_stands}
 use Rattle.kc_regions.specs.Description.{Description}
 use Rattle.kc_regions.specs.Region.{stack_of}
 use Rattle.kc_regions.specs.Valid.{IsValid}
 use Rattle.kc_regions.specs.declared.entry.Handler.{Handler}
-use Rattle.kc_cpu.specs.declared.cpu.Mode.TheVariants.{User, Code}
+use Rattle.kc_cpu.specs.declared.cpu.Mode.TheVariants.{User}
 use Rattle.kc_mem.specs.Memory.{read}
 use Rattle.kc_exec.specs.Admitted.{IsAdmitted}
 use Rattle.kc_exec.specs.Register.{register, rsp}
@@ -28,7 +28,7 @@ use Rattle.kc_state.specs.declared.interrupted.Interrupted.{Interrupted}
 use Rattle.kc_state.specs.declared.key.Key.{Key}
 use Rattle.kc_state.specs.declared.location.Location.{Location}
 use Rattle.kc_state.specs.declared.state.AbsState.{AbsState}
-use Rattle.kc_describes.specs.Chain.{newest_of, oldest_of, user_gs_of, env_of, OnlyOldestIsUser}
+use Rattle.kc_describes.specs.Chain.{newest_of, oldest_of, user_gs_of, env_of}
 use Rattle.kc_describes.specs.Describes.{Describes}
 use Rattle.kc_describes.specs.Fits.{is_user_mode}
 use Rattle.kc_describes.specs.Places.{address_of, WordStands}

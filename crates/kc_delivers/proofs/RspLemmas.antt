@@ -1,7 +1,7 @@
 -- Where RSP of interrupted kernel code lies: by C4 it is the interrupted RSP, whose stack is the key's, or a number, or
 -- an offset whose place is the key's stack alone.
-use Rattle.std.proofs.Common.{◌≡◌, ◌≢◌, ℕ, ◌+◌, ◌^◌, ◌<◌, ◌==◌, ◌&&◌, not, inl, inr, Bool, true, false, cond, List, [], ◌∷◌, length, get_or, slice_index, Option, Some, None, IfSome, ℤ, pos, neg_ℤ, int_le, refl, sym, ap, ◌∙◌, subst, arith}
-use Rattle.std.proofs.lemmas.Bool.{and_parts, eqb-true, cases_Bool, cases_eq, true≢false, false≢true}
+use Rattle.std.proofs.Common.{◌≡◌, ℕ, ◌^◌, ◌<◌, ◌&&◌, ◌||◌, not, inl, inr, Bool, true, false, cond, List, length, get_or, Option, Some, None, IfSome, pos, neg_ℤ, int_le, refl, sym, ap, ◌∙◌, subst, arith}
+use Rattle.std.proofs.lemmas.Bool.{and_parts, eqb-true, cases_Bool, cases_eq, not-true, true≢false, false≢true}
 use Rattle.kc_insn.specs.declared.insn.Insn.{Insn}
 use Rattle.kc_regions.specs.Description.{Description}
 use Rattle.kc_regions.specs.Region.{stack_of, stacks_of}
@@ -15,20 +15,20 @@ use Rattle.kc_value.specs.Symbol.{Names}
 use Rattle.kc_value.specs.declared.env.ValueEnv.{ValueEnv}
 use Rattle.kc_value.specs.declared.symbol.Sym.{Sym}
 use Rattle.kc_value.specs.declared.symbol.Sym.TheVariants.{Plain, Base, Entry, UserGs}
-use Rattle.kc_state.specs.Conditions.{is_word, is_exact_at, is_exact}
+use Rattle.kc_state.specs.Conditions.{is_word, is_exact_at, is_exact, stack_region}
 use Rattle.kc_state.specs.Places.{is_interrupted_rsp, location_stack, value_stack}
 use Rattle.kc_state.specs.declared.key.Key.{Key}
-use Rattle.kc_describes.specs.Chain.{env_of, newest_of, user_gs_of, words_of, IsDue}
+use Rattle.kc_describes.specs.Chain.{env_of, newest_of, user_gs_of, IsDue}
 use Rattle.kc_describes.specs.Fits.{is_user_mode, Fits, ChainFits}
 use Rattle.kc_describes.proofs.ChainLemmas.{newest_all}
 use Rattle.std.specs.Int.{bit_at}
-use Rattle.std.proofs.lemmas.Nat.Bits.{bit_at-pow_other}
+use Rattle.std.proofs.lemmas.Nat.Bits.{bit_at-pow_same, bit_at-pow_other}
 use Rattle.kc_regions.proofs.LayoutLemmas.{laid}
 use Rattle.kc_space.specs.Spaces.{is_same_who, is_same_map}
 use Rattle.kc_space.specs.declared.map.MapState.TheVariants as map_is
 use Rattle.kc_space.specs.declared.who.Who.TheVariants as who
 use Rattle.kc_value.specs.AbsValue.{AbsValue}
-use Rattle.kc_value.specs.Place.{place_bit}
+use Rattle.kc_value.specs.Place.{place_bit, LiesIn}
 use Rattle.kc_value.specs.Value.{Represents, value_top}
 use Rattle.kc_state.specs.AbsEffect.{moment_of}
 use Rattle.kc_state.specs.Location.{location_of}
@@ -40,10 +40,16 @@ use Rattle.kc_state.specs.declared.state.AbsState.{AbsState}
 use Rattle.kc_describes.specs.Describes.{Describes}
 use Rattle.kc_describes.specs.Widths.{IsActivation}
 use Rattle.kc_describes.proofs.FrameLemmas.{code, code_file}
-use Rattle.kc_describes.proofs.LocationLemmas.{located}
+use Rattle.kc_describes.proofs.LocationLemmas.{in_stack, located}
 use Rattle.kc_describes.proofs.OperandLemmas.{word_at, value_at_valid}
-use Rattle.kc_describes.proofs.ValueLemmas.{lies_in}
+use Rattle.kc_describes.proofs.ValueLemmas.{lies_in, lies_at, nothing_stands}
 use Rattle.kc_returns.proofs.WordLemmas.{register_word}
+use Rattle.kc_bits.proofs.Prefix.{prefix_sound}
+use Rattle.kc_regions.specs.declared.entry.Handler.{Handler}
+use Rattle.kc_state.specs.AbsDelivery.{in_region, is_relative, own_rsp, interrupted_at}
+use Rattle.kc_describes.proofs.PermissionLemmas.{IsKnownCr3, known_cr3}
+use Rattle.kc_delivers.proofs.InterruptedLemmas.{entry_env, IsInterrupted}
+use Rattle.kc_delivers.proofs.KernelLemmas.{kernel_interrupted}
 
 -- the stack of the RSP that a return restores is the key's: an edited one lies in none, as the user's does
 due_by : (cfg : Description) (key : Key) (user_gs : ℕ) (a : Activation) (m : Mode) → a.saved.mode ≡ m
@@ -151,3 +157,57 @@ module _ (cfg : Description) (valid : IsValid cfg) (key : Key) (at : ℕ) (found
         by_location (location_of key v) refl other at_exact
         ∙ sym (ap (λ t. cond t key.stack (location_stack cfg key (location_of key v))) other)
   ]
+
+  -- ---- the saved RSP
+
+  module _ (user_gs base : ℕ) where
+    abbrev env : ValueEnv
+    env = entry_env cfg S.cpu user_gs base
+
+    word_is : n ≡ get_or env.words 4 0
+    word_is = sym (register_word S.cpu D.typed.cpu.regs.0 4 (omega arith))
+
+    in_place : (o : Option ℕ) → stack_of cfg.regions n ≡ o → LiesIn (2 ^ place_bit o) env.stacks n
+    in_place o e =
+        lies_at cfg valid (2 ^ place_bit o) n
+        (subst (λ z. bit_at (2 ^ place_bit o) (place_bit z) ≡ 1) (sym e) (bit_at-pow_same (place_bit o)))
+
+    in_own_region : (o : Option ℕ) → stack_of cfg.regions n ≡ o → Represents (in_region o (stack_region cfg o)) env n
+    in_own_region (Some t) e =
+        let there = in_stack cfg t n valid e in
+        let r = there.region in
+        let ends = there.is.ends in
+        let made : Represents (in_region (Some t) (Some r)) env n = record {
+          symbol = word_is;
+          bits = prefix_sound r.span there.is.filled (omega (arith, ends)) n there.held;
+          place = in_place (Some t) e;
+        } in
+        subst (λ z. Represents (in_region (Some t) z) env n) (sym there.numbered) made
+    in_own_region None e = record { symbol = word_is; bits = nothing_stands n; place = in_place None e }
+
+    saved_by : (b : Bool) → Represents (own_rsp cfg b (value_stack cfg key v) v) env n
+    saved_by true = in_own_region (value_stack cfg key v) rsp_stack
+    saved_by false = record { symbol = word_is; bits = stands.bits; place = stands.place }
+
+    pub saved_rsp : Represents (own_rsp cfg (false || is_relative (location_of key v)) (value_stack cfg key v) v) env n
+    saved_rsp = saved_by (false || is_relative (location_of key v))
+
+  -- ---- interrupted kernel code
+
+  known : IsKnownCr3 cfg S.cpu.cr3
+  known =
+      let m = moment_of cfg key s 0 in
+      let p = and_parts
+      (not (is_same_who m.cpu.gs.active who.Any) && (not (is_same_who m.cpu.gs.inactive who.Any)
+      && not (is_same_map m.cpu.map map_is.Any)))
+      (is_exact_at m false v (location_of key v)) exact in
+      let q = and_parts (not (is_same_who m.cpu.gs.active who.Any))
+      (not (is_same_who m.cpu.gs.inactive who.Any) && not (is_same_map m.cpu.map map_is.Any)) p.0 in
+      let r = and_parts (not (is_same_who m.cpu.gs.inactive who.Any)) (not (is_same_map m.cpu.map map_is.Any)) q.1 in
+      known_cr3 cfg s.map S.cpu.cr3 (not-true (is_same_map s.map map_is.Any) r.1) D.spaces.map
+
+  -- what is known of it is true of the machine, by C4
+  pub code_interrupted : (h : Option Handler)
+      → IsInterrupted cfg (interrupted_at cfg key (code at) s h) s.slots S (user_gs_of S.chain)
+  code_interrupted h =
+      kernel_interrupted cfg valid key at found s S ok D h known rsp_stack (λ base. saved_rsp (user_gs_of S.chain) base)
