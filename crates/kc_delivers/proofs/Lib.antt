@@ -14,3 +14,4 @@ pub mod ConstantLemmas
 pub mod FromUserLemmas
 pub mod KernelLemmas
 pub mod RspLemmas
+pub mod FloorLemmas

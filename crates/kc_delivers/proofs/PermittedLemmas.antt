@@ -132,8 +132,8 @@ module _ (cfg : Description) (valid : IsValid cfg) (map_is : MapState) (cr3 gs :
   -- what a delivery reads
   pub free_reads : (key : Key) (v : ℕ) (taken : Option ℕ) (more : List Access) → IfSome taken (λ n. n < 8)
       → may_touch cfg map_is v taken ≡ true → All Free more
-      → All Free (plain_read (word (cfg.cpu.idt + 16 * v)) 16 ∷ plain_read (word (cfg.cpu.gdt + cfg.cpu.star_kernel)) 8
-      ∷ (stack_reads cfg taken ++ more))
+      → All Free (plain_read (word (cfg.cpu.idt + 16 * v)) 16
+      ∷ plain_read (word (cfg.cpu.gdt + cfg.cpu.star_kernel)) 8 ∷ (stack_reads cfg taken ++ more))
   free_reads key v taken more few h rest =
       let gate = word (cfg.cpu.idt + 16 * v) in
       let selector = word (cfg.cpu.gdt + cfg.cpu.star_kernel) in
