@@ -213,7 +213,8 @@ module _ (cfg : Description) (valid : IsValid cfg) (i : Interrupted) (slots : Li
   frame_slot : (j : ℕ) (l : Location) → j < 5 → word_of cfg key (40 + j) ≡ Some l
       → WordStands env mem (value_at i.frame j) l
   frame_slot j l few e =
-      let w = base_word_at cfg valid key user_gs act (fits cfg valid i slots S user_gs I key g.vector base key_is) F.fits
+      let key_fits = fits cfg valid i slots S user_gs I key g.vector base key_is in
+      let w = base_word_at cfg valid key user_gs act key_fits F.fits
       (40 + j) l (omega arith) (omega (arith, few)) e in
       let room = F.room in
       let count = five in

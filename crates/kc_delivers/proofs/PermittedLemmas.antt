@@ -159,8 +159,8 @@ module _ (cfg : Description) (valid : IsValid cfg) (map_is : MapState) (cr3 gs :
       ws base fits (omega (arith, size, room))
       (λ x small of.
       let inside = of_frame base n x fits room (omega (arith, of.0, size)) of.1 in (
-        may_permits cfg key 0 map_is cr3 (Number (below_address base n)) n x Write valid low (λ e. absurd cc) stands known
-            may small inside,
+        may_permits cfg key 0 map_is cr3 (Number (below_address base n)) n x Write valid low (λ e. absurd cc) stands
+            known may small inside,
         may_number cfg map_is (below_address base n) n x Write low small may inside,
         unlive x (omega (arith, of.0, size)) of.1,
       ))
