@@ -1,0 +1,17 @@
+pub mod FlagLemmas
+pub mod ChainLemmas
+pub mod PushLemmas
+pub mod InterruptedLemmas
+pub mod BytesLemmas
+pub mod EntryLemmas
+pub mod TurnLemmas
+pub mod ReadLemmas
+pub mod UserLemmas
+pub mod AdmittedLemmas
+pub mod SyscallLemmas
+pub mod PermittedLemmas
+pub mod ConstantLemmas
+pub mod FromUserLemmas
+pub mod KernelLemmas
+pub mod RspLemmas
+pub mod FloorLemmas
