@@ -1,5 +1,5 @@
--- Look-ups in rows: in a list of keys, no two of which tie, beside a list of values, the first entry whose key ties with
--- that of a row is the row's. By induction on the rows.
+-- Look-ups in rows: in a list of keys, no two of which tie, beside a list of values, the first entry whose key ties
+-- with that of a row is the row's. By induction on the rows.
 use Rattle.std.proofs.Common.{◌≡◌, ℕ, zero, suc, inl, inr, true, false, cond, List, [], ◌∷◌, ◌++◌}
 use Rattle.std.proofs.Common.{Some, None, length, set, slice_get, refl, sym, ap, ◌∙◌, arith}
 use Rattle.std.proofs.lemmas.Bool.{false≢true}
@@ -35,8 +35,10 @@ module _ {K : Type 0} (R : K → K → Ordering) (o : IsTotalOrder R) where
   pub apart-push : (ks : List K) (k : K) → NoTwoTie R ks → TiesWithNone R k ks → NoTwoTie R (ks ++ k ∷ [])
   unfolding IsDistinct
   apart-push [] k h free = (tt, tt)
-  apart-push (q ∷ ks) k h free =
-      (pushed (λ z. eq_by_cmp R q z ≡ false) ks k h.0 ((eq_by_cmp_equiv o).symm q k ∙ free.0), apart-push ks k h.1 free.1)
+  apart-push (q ∷ ks) k h free = (
+    pushed (λ z. eq_by_cmp R q z ≡ false) ks k h.0 ((eq_by_cmp_equiv o).symm q k ∙ free.0),
+    apart-push ks k h.1 free.1,
+  )
 
   -- and the other way: the last of such keys ties with none before it
   pub last-apart : (ks : List K) (k : K) → NoTwoTie R (ks ++ k ∷ []) → TiesWithNone R k ks
@@ -67,8 +69,8 @@ module _ {K : Type 0} (R : K → K → Ordering) (o : IsTotalOrder R) where
         ap (λ b. cond b (Some v) (find R k (zip ks vs))) h.0 ∙ find-apart ks vs k h.1
 
     -- the first entry that ties with the key of a row is the row's
-    pub find-at : (ks : List K) (vs : List X) (n : ℕ) (q : K) → NoTwoTie R ks → length vs ≡ length ks → slice_get ks n ≡ Some q
-        → find R q (zip ks vs) ≡ slice_get vs n
+    pub find-at : (ks : List K) (vs : List X) (n : ℕ) (q : K) → NoTwoTie R ks → length vs ≡ length ks
+        → slice_get ks n ≡ Some q → find R q (zip ks vs) ≡ slice_get vs n
     find-at [] vs n q h l e = absurd (not-None q e)
     find-at (k ∷ ks) [] n q h l e = absurd (omega (arith, l))
     find-at (k ∷ ks) (v ∷ vs) zero q h l e =

@@ -84,7 +84,8 @@ module _ {K X : Type 0} (R : K → K → Ordering) (o : IsTotalOrder R) where
       ≡ map_of ks (raised_at joined vs n x)
   raised-row joined ks vs n k q x h l e t =
       let m : FinMap R X = map_of ks vs in
-      let there : get m q ≡ Some (get_or vs n x) = get-at ks vs n q h l e ∙ got vs n x (omega (arith, at-some ks n q e, l)) in
+      let there : get m q ≡ Some (get_or vs n x) =
+      get-at ks vs n q h l e ∙ got vs n x (omega (arith, at-some ks n q e, l)) in
       let is : get m k ≡ Some (get_or vs n x) = get_tied o m q k (turned R o k q t) ∙ there in
       ap (λ p. insert m k (also joined p x)) is
       ∙ insert-tied R o m k q (joined (get_or vs n x) x) t (ap is_some there)
@@ -102,13 +103,15 @@ module _ {K X : Type 0} (R : K → K → Ordering) (o : IsTotalOrder R) where
       ap (λ p. insert m k (also joined p x)) none ∙ insert-new ks vs k x h l
 
   -- as many keys as rows
-  pub len-rows : (ks : List K) (vs : List X) → NoTwoTie R ks → length vs ≡ length ks → len (map_of {R = R} ks vs) ≡ length ks
+  pub len-rows : (ks : List K) (vs : List X) → NoTwoTie R ks → length vs ≡ length ks
+      → len (map_of {R = R} ks vs) ≡ length ks
   unfolding IsDistinct
   len-rows [] vs h l = len-empty R X
   len-rows (k ∷ ks) [] h l = absurd (omega (arith, l))
   len-rows (k ∷ ks) (v ∷ vs) h l =
       let m : FinMap R X = map_of ks vs in
-      let none : is_some (get m k) ≡ false = ap is_some (get-from_entries o (zip ks vs) k ∙ find-apart R o ks vs k h.0) in
+      let none : is_some (get m k) ≡ false =
+      ap is_some (get-from_entries o (zip ks vs) k ∙ find-apart R o ks vs k h.0) in
       let rest = len-rows ks vs h.1 (omega (arith, l)) in
       let one : len (insert m k v) ≡ len m + 1 =
       len-insert o m k v ∙ ap (λ b. cond b (len m) (len m + 1)) none in

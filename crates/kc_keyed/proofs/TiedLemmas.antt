@@ -3,7 +3,8 @@
 use Rattle.std.proofs.Common.{◌≡◌, true, cond, T, List, [], ◌∷◌, Some, None, is_some, refl, sym, ap, subst, ◌∙◌}
 use Rattle.std.proofs.lemmas.Bool.{false≢true}
 use Rattle.std.specs.Cmp.{IsTotalOrder}
-use Rattle.std.specs.FinMap.{FinMap, entries, entries_sorted, entries-insert, get, get-entries, insert, same_entries_map}
+use Rattle.std.specs.FinMap.{FinMap, entries, entries_sorted, entries-insert, get, get-entries, insert}
+use Rattle.std.specs.FinMap.{same_entries_map}
 use Rattle.std.specs.FinMap.Entries.{find, put, is_sorted, below_all, by_order}
 use Rattle.std.specs.Ordering.{is_eq, is_lt}
 use Rattle.std.specs.declared.cmp.Ordering.{Ordering}
