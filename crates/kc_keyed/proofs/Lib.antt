@@ -1,0 +1,4 @@
+pub mod AmongLemmas
+pub mod FindLemmas
+pub mod TiedLemmas
+pub mod KeyedLemmas
