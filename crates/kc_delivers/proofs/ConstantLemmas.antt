@@ -32,7 +32,9 @@ use Rattle.kc_describes.specs.Places.{FloorsStand}
 use Rattle.kc_describes.proofs.QuietLemmas.{IsQuiet}
 use Rattle.kc_describes.proofs.ValueLemmas.{number_stands}
 use Rattle.kc_calls.proofs.InsideLemmas.{like_described}
-use Rattle.kc_delivers.specs.Delivered.{entry_at, vector_of, Enters, MayComeIn}
+use Rattle.kc_calls.specs.Laws.{code_at}
+use Rattle.kc_arrivals.specs.Arrivals.{vector_of}
+use Rattle.kc_delivers.specs.Delivered.{Enters, MayComeIn}
 use Rattle.kc_delivers.proofs.EntryLemmas.{IsFrameAt, frame_length, size_cases, pushed_length, described}
 use Rattle.kc_delivers.proofs.InterruptedLemmas.{IsInterrupted, made, entry_env}
 use Rattle.kc_delivers.proofs.PermittedLemmas.{IsFree, IsInOneStack, in_one_stack, may_write, base_fits, frame_at, free_push, free_reads, none_stops, all_quiet}
@@ -141,7 +143,7 @@ module _ (cfg : Description) (valid : IsValid cfg) (i : Interrupted) (slots : Li
       subst (λ n. Represents (number_value cfg n) (entry_env cfg S.cpu user_gs base) rsp_after) (sym rsp_is)
       (number_stands cfg valid (entry_env cfg S.cpu user_gs base) refl rsp_after (omega arith))
 
-  there : (found : Option (Insn × ℕ)) → Describes cfg key (entry_at g.entry) found out (after S t)
+  there : (found : Option (Insn × ℕ)) → Describes cfg key (code_at g.entry) found out (after S t)
   there found =
       described cfg valid i slots S user_gs I g code (Some base) base F refl gate.entry new rsp_after (omega arith)
       rsp_stands i.floors stand found (after S t) refl
@@ -163,7 +165,7 @@ module _ (cfg : Description) (valid : IsValid cfg) (i : Interrupted) (slots : Li
     enters_from comes = record {
       quiet = quiet cfg image S turn t same (event_is_no_go turn v delivers) refl all;
       goes = λ found T step.
-          like_described cfg key (entry_at g.entry) found out T (after S t)
+          like_described cfg key (code_at g.entry) found out T (after S t)
           (runs_on cfg image S turn t same (event_is_no_go turn v delivers) refl all
           (none_stops cfg S.cpu.cr3 S.cpu.gs chain t.accesses free) comes T step)
           (there found);

@@ -53,7 +53,7 @@ use Rattle.kc_describes.proofs.OffsetLemmas.{rising_byte}
 use Rattle.kc_describes.proofs.OperandLemmas.{word_at}
 use Rattle.kc_describes.proofs.SlotLemmas.{get_or-redone, IsAreaWord, area_word, base_word_at}
 use Rattle.kc_describes.proofs.ValueLemmas.{top_stands, anywhere}
-use Rattle.kc_delivers.specs.Delivered.{entry_at}
+use Rattle.kc_calls.specs.Laws.{code_at}
 use Rattle.kc_delivers.proofs.BytesLemmas.{frame_bytes}
 use Rattle.kc_delivers.proofs.ChainLemmas.{each}
 use Rattle.kc_delivers.proofs.FlagLemmas.{entry_flags_model, entry_flags_fit, entry_flags_stand}
@@ -354,8 +354,8 @@ module _ (cfg : Description) (valid : IsValid cfg) (i : Interrupted) (slots : Li
     -- the entry state describes the machine after the delivery
     pub described : (found : Option (Insn × ℕ)) (T : State)
         → T ≡ record S { cpu = cpu; latch = latch; mem = record S.mem { bytes = mem }; chain = chain }
-        → Describes cfg key (entry_at g.entry) found out T
-    described found T is = subst (Describes cfg key (entry_at g.entry) found out) (sym is) (record {
+        → Describes cfg key (code_at g.entry) found out T
+    described found T is = subst (Describes cfg key (code_at g.entry) found out) (sym is) (record {
       typed = typed;
       running = I.running;
       chain = chain_fits cfg valid i slots S user_gs I key g.vector base key_is;

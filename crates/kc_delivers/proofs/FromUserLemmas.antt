@@ -31,7 +31,8 @@ use Rattle.kc_describes.specs.Row.{value_at}
 use Rattle.kc_describes.specs.User.{UserDescribes}
 use Rattle.kc_describes.proofs.OperandLemmas.{value_at_valid}
 use Rattle.kc_describes.proofs.ValueLemmas.{single_is}
-use Rattle.kc_delivers.specs.Delivered.{vector_of, Enters, MayComeIn, UserDeliveryIsCovered}
+use Rattle.kc_arrivals.specs.Arrivals.{vector_of}
+use Rattle.kc_delivers.specs.Delivered.{Enters, MayComeIn, UserDeliveryIsCovered}
 use Rattle.kc_delivers.proofs.AdmittedLemmas.{interrupted}
 use Rattle.kc_delivers.proofs.ConstantLemmas.{enters_from}
 use Rattle.kc_delivers.proofs.InterruptedLemmas.{made}

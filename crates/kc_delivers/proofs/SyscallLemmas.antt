@@ -44,7 +44,8 @@ use Rattle.kc_describes.proofs.SlotLemmas.{get_or-redone}
 use Rattle.kc_describes.proofs.ValueLemmas.{top_stands, anywhere}
 use Rattle.kc_calls.proofs.InsideLemmas.{like_described}
 use Rattle.kc_rules.proofs.AnswerLemmas.{some_is}
-use Rattle.kc_delivers.specs.Delivered.{entry_at, Enters, MayComeIn, SyscallIsCovered}
+use Rattle.kc_calls.specs.Laws.{code_at}
+use Rattle.kc_delivers.specs.Delivered.{Enters, MayComeIn, SyscallIsCovered}
 use Rattle.kc_delivers.proofs.AdmittedLemmas.{interrupted, own_rip, own_flags}
 use Rattle.kc_delivers.proofs.ChainLemmas.{each, live_cases}
 use Rattle.kc_delivers.proofs.FlagLemmas.{masked_flags, masked_fits, masked_stands, fmask_fixed}
@@ -219,7 +220,7 @@ module _ (cfg : Description) (valid : IsValid cfg) (u : UserState) (ok : IsUserS
   }
 
   described : (found : Option (Insn × ℕ)) → S.cpu.cs ≡ user_cs64 cfg.cpu
-      → Describes cfg key (entry_at cfg.cpu.syscall) found out (after S (syscall cfg S))
+      → Describes cfg key (code_at cfg.cpu.syscall) found out (after S (syscall cfg S))
   described found long = record {
     typed = typed;
     running = U.running;
@@ -248,9 +249,9 @@ module _ (cfg : Description) (valid : IsValid cfg) (u : UserState) (ok : IsUserS
     no_access = All-nil (IsQuiet cfg S.cpu.cr3 S.cpu.gs S.chain)
 
     goes : (found : Option (Insn × ℕ)) (T : State) → Steps cfg image S Syscall T
-        → Describes cfg key (entry_at cfg.cpu.syscall) found out T
+        → Describes cfg key (code_at cfg.cpu.syscall) found out T
     goes found T step =
-        like_described cfg key (entry_at cfg.cpu.syscall) found out T (after S (syscall cfg S))
+        like_described cfg key (code_at cfg.cpu.syscall) found out T (after S (syscall cfg S))
         (runs_on cfg image S Syscall (syscall cfg S) (λ here. refl) syscall_is_no_go refl no_access refl comes T step)
         (described found comes.2.1.long)
 

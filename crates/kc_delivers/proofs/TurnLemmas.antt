@@ -19,7 +19,8 @@ use Rattle.kc_events.specs.declared.turn.Turn.{Turn}
 use Rattle.kc_events.specs.declared.turn.Turn.TheVariants.{Go, Irq, Nmi, Debug, Check, Fault, Trap, Syscall, User as UserTurn, Body, Leave}
 use Rattle.kc_describes.proofs.QuietLemmas.{IsQuiet, quiet_gs, quiet_touches, quiet_writes}
 use Rattle.kc_returns.proofs.FetchLemmas.{one_found}
-use Rattle.kc_delivers.specs.Delivered.{vector_of, MayComeIn}
+use Rattle.kc_arrivals.specs.Arrivals.{vector_of}
+use Rattle.kc_delivers.specs.Delivered.{MayComeIn}
 
 -- ---- the instruction at RIP
 

@@ -1,6 +1,6 @@
 -- What the abstract delivery of an event, and the abstract SYSCALL, say of the machine's, each a law. This project's
 -- own.
-use Rattle.std.specs.Prelude.{◌≡◌, ℕ, true, false, ◌⊎◌, Option, Some, None}
+use Rattle.std.specs.Prelude.{◌≡◌, ℕ, true, ◌⊎◌, Option, Some, None}
 use Rattle.kc_insn.specs.declared.insn.Insn.{Insn}
 use Rattle.kc_image.specs.Image.{Contents}
 use Rattle.kc_regions.specs.Description.{Description}
@@ -12,7 +12,7 @@ use Rattle.kc_events.specs.Allowed.{IsAllowed}
 use Rattle.kc_events.specs.Fetched.{IsAt}
 use Rattle.kc_events.specs.Run.{Breaks, Steps}
 use Rattle.kc_events.specs.declared.turn.Turn.{Turn}
-use Rattle.kc_events.specs.declared.turn.Turn.TheVariants.{Irq, Nmi, Debug, Check, Fault, Trap, Syscall}
+use Rattle.kc_events.specs.declared.turn.Turn.TheVariants.{Syscall}
 use Rattle.kc_state.specs.AbsDelivery.{delivery, user_entry}
 use Rattle.kc_state.specs.State.{IsState}
 use Rattle.kc_state.specs.User.{IsUserState}
@@ -22,24 +22,12 @@ use Rattle.kc_state.specs.declared.state.AbsState.{AbsState}
 use Rattle.kc_state.specs.declared.user.UserState.{UserState}
 use Rattle.kc_describes.specs.Describes.{Describes}
 use Rattle.kc_describes.specs.User.{UserDescribes}
-
--- the vector of the event that the turn delivers, if it delivers one
-abbrev pub vector_of : Turn → Option ℕ
-vector_of (Irq v) = Some v
-vector_of Nmi = Some 2
-vector_of Debug = Some 1
-vector_of Check = Some 18
-vector_of (Fault a code) = Some 14
-vector_of (Trap v code) = Some v
-vector_of _ = None
+use Rattle.kc_calls.specs.Laws.{code_at}
+use Rattle.kc_arrivals.specs.Arrivals.{vector_of}
 
 -- the turn may come, where the instruction at RIP is the one that the image spells there
 abbrev pub MayComeIn : Description → Contents → State → Turn → Type 0
 MayComeIn cfg image S turn = (here : Option (Insn × ℕ)) × IsAt image S.cpu.rip here × IsAllowed cfg here S turn
-
--- the first instruction of kernel code that is entered at this address
-abbrev pub entry_at : ℕ → Site
-entry_at a = record { at = a; inside = false }
 
 -- The turn breaks nothing, and the machine that it leads to runs at this address, described by the state under the key;
 -- `found` is the instruction that is there.
@@ -48,7 +36,7 @@ pub record Enters (cfg : Description) (image : Contents) (key : Key) (at : ℕ) 
   where
     pub quiet : (b : ℕ) → ¬ Breaks cfg image S turn b
     pub goes : (found : Option (Insn × ℕ)) (T : State) → Steps cfg image S turn T
-        → Describes cfg key (entry_at at) found s T
+        → Describes cfg key (code_at at) found s T
 
 -- The same, but that a frame on the interrupted stack, for which the key has no base, may reach the guard below it,
 -- where the machine stops.
@@ -57,7 +45,7 @@ pub record EntersOrStops (cfg : Description) (image : Contents) (key : Key) (at 
   where
     pub quiet : (b : ℕ) → ¬ Breaks cfg image S turn b
     pub goes : (found : Option (Insn × ℕ)) (T : State) → Steps cfg image S turn T
-        → ((T.stopped ≡ true) × (key.base ≡ None)) ⊎ Describes cfg key (entry_at at) found s T
+        → ((T.stopped ≡ true) × (key.base ≡ None)) ⊎ Describes cfg key (code_at at) found s T
 
 -- SYSCALL, which the user state describes, leads to the configured address
 abbrev pub SyscallIsCovered : Type 0
