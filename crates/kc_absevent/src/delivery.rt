@@ -15,6 +15,7 @@ ghost use Rattle.kc_state.specs.Key.{IsKey};
 ghost use Rattle.kc_state.specs.Location.{location_of};
 ghost use Rattle.kc_state.specs.WellFormed.{IsStateWellFormed, IsUserWellFormed};
 ghost use Rattle.kc_state.specs.AbsDelivery.{delivered_from, delivered_at, delivered_below, delivered, delivery, interrupted_at, user_delivery, user_entry};
+ghost use Rattle.kc_absevent.specs.Covers.{CoversEntry};
 ghost use Rattle.kc_absevent.specs.Ends.{Delivers};
 
 use crate::accesses::{may_push, may_touch};
@@ -26,6 +27,7 @@ use crate::interrupted::{interrupt_kernel, interrupt_user, is_relative};
 use crate::stack::{align, choose_rsp, choose_word, frame_size};
 use kc_frames::{Floor, Slots};
 use kc_insn::Insn;
+use kc_lattice::Domain;
 use kc_regions::{Config, Gate, Handler};
 use kc_state::{
     AbsState, Condition, Interrupted, Key, Location, Moment, Scratch, Site, UserState, clear,
@@ -303,8 +305,7 @@ fn deliver_user_vector(
     put_entry(deliver_at(cfg, &i, &user.slots, &gate, chosen), out)
 }
 
-/// The same while the user runs; None is SYSCALL, which always enters.
-pub fn deliver_user(
+fn enter_from_user(
     cfg: &Config,
     user: &UserState,
     entry: Option<u8>,
@@ -319,4 +320,24 @@ pub fn deliver_user(
         Some(v) => deliver_user_vector(cfg, user, v, out),
         None => Ok(enter_syscall(cfg, user, &mut out.out)),
     }
+}
+
+/// The same while the user runs; None is SYSCALL, which always enters.
+pub fn deliver_user(
+    cfg: &Config,
+    user: &UserState,
+    entry: Option<u8>,
+    out: &mut Scratch,
+) -> Result<Key, Condition>
+    requires gate { IfSome entry (λ v. IsSome (gate_of cfg.now.gates v)) }
+    ensures value { Delivers result out.old out.new (user_entry cfg.now user.now entry) }
+    ensures key { IfOk result (IsKey (length (stacks_of cfg.now.regions))) }
+    ensures well_formed { IsUserWellFormed user.now → IfOk result (λ k. IsStateWellFormed cfg.now k out.new.out) }
+    // Where the user state describes the machine, the event or SYSCALL breaks nothing, and the entry state
+    // describes the machine that it leads to.
+    ensures covers { IfOk result (λ k. CoversEntry cfg.now user.now entry k out.new.out) }
+{
+    cfg.tell();
+    user.tell();
+    enter_from_user(cfg, user, entry, out)
 }
