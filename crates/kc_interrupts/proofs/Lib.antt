@@ -1,0 +1,4 @@
+pub mod PlaceLemmas
+pub mod InsideLemmas
+pub mod ChainFloorLemmas
+pub mod PushFloorLemmas
